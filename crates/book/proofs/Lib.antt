@@ -1,0 +1,6 @@
+pub mod Answers
+pub mod Fronts
+pub mod Refusals
+mod Spelling
+mod Lookups
+mod Books

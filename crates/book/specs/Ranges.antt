@@ -1,0 +1,30 @@
+-- The ranges of numbers: each test says that a number is outside its range.
+use Prim.Native.Nat.{ℕ}
+use mathlib.Core.Bool.{Bool, true, false, _||_}
+use lib.Dec.{ltb}
+use Rattle.std.specs.declared.result.Result.{Result}
+use Rattle.std.specs.declared.result.Result.the-variants.{Ok, Err}
+use Rattle.book.specs.declared.faults.FieldCause.the-variants.{Range}
+use Rattle.book.specs.declared.faults.FieldFault.{FieldFault}
+use Rattle.book.specs.Faults.{fault}
+
+abbrev pub outside : ℕ → ℕ → ℕ → Bool
+outside low high n = ltb n low || ltb high n
+
+abbrev pub no-portfolio : ℕ → Bool
+no-portfolio p = outside 1 65535 p
+
+abbrev pub no-currency : ℕ → Bool
+no-currency c = outside 1 999 c
+
+-- an exchange rate in ten-thousandths of a rouble
+abbrev pub no-rate : ℕ → Bool
+no-rate fx = outside 1 10000000 fx
+
+abbrev pub no-amount : ℕ → Bool
+no-amount x = outside 1 200000000000 x
+
+-- refusal 4 at a place, where a number is outside its range
+abbrev pub ranged : Bool → ℕ → Result (Unit {0}) FieldFault
+ranged true p = Err (fault Range p)
+ranged false p = Ok tt

@@ -1,0 +1,69 @@
+// The ranges of the numbers that a field or a call brings. A number outside its range is the field's fault 4.
+ghost use mathlib.Core.Path.{_≡_};
+ghost use mathlib.Core.Bool.{_||_};
+ghost use Rattle.book.specs.Ranges.{no-portfolio, no-currency, no-rate, no-amount, ranged};
+use crate::faults::FieldCause;
+use crate::faults::FieldFault;
+
+const LAST_CURRENCY: u16 = 999;
+
+const MOST_FX: u32 = 10_000_000;
+
+const MOST_AMOUNT: u64 = 200_000_000_000;
+
+// A fault where a number is outside its range.
+fn ranged(outside: bool, place: usize) -> Result<(), FieldFault>
+    ensures { λ r. ⌜ r ≡ ranged outside place ⌝ }
+{
+    if outside {
+        return Err(FieldFault {
+            cause: FieldCause::Range,
+            place,
+        });
+    }
+    Ok(())
+}
+
+fn not_a_currency(code: u16) -> bool
+    ensures { λ r. ⌜ r ≡ no-currency code ⌝ }
+{
+    code == 0 || code > LAST_CURRENCY
+}
+
+fn not_a_rate(fx: u32) -> bool
+    ensures { λ r. ⌜ r ≡ no-rate fx ⌝ }
+{
+    fx == 0 || fx > MOST_FX
+}
+
+fn not_an_amount(amount: u64) -> bool
+    ensures { λ r. ⌜ r ≡ no-amount amount ⌝ }
+{
+    amount == 0 || amount > MOST_AMOUNT
+}
+
+// The numbers of a currency entry: its code, and its exchange rate in ten-thousandths of a rouble.
+pub fn check_currency(code: u16, fx: u32, place: usize) -> Result<(), FieldFault>
+    ensures { λ r. ⌜ r ≡ ranged (no-currency code || no-rate fx) place ⌝ }
+{
+    ranged(not_a_currency(code) || not_a_rate(fx), place)
+}
+
+pub fn check_portfolio(portfolio: u16, place: usize) -> Result<(), FieldFault>
+    ensures { λ r. ⌜ r ≡ ranged (no-portfolio portfolio) place ⌝ }
+{
+    ranged(portfolio == 0, place)
+}
+
+// The numbers of a payment: its portfolio, its currency, and its amount in hundredths.
+pub fn check_payment(
+    portfolio: u16,
+    currency: u16,
+    amount: u64,
+    place: usize,
+) -> Result<(), FieldFault>
+    ensures { λ r. ⌜ r ≡ ranged (no-portfolio portfolio || no-currency currency || no-amount amount) place ⌝ }
+{
+    check_portfolio(portfolio, place)?;
+    ranged(not_a_currency(currency) || not_an_amount(amount), place)
+}

@@ -1,0 +1,15 @@
+pub mod Lists
+pub mod Integers
+pub mod Sums
+pub mod Worths
+pub mod Lines
+pub mod WorstCase
+pub mod ListFillings
+pub mod NeverLower
+pub mod Fills
+pub mod InOrder
+pub mod Grosses
+pub mod Sizes
+pub mod Places
+pub mod CashFigures
+pub mod Scans

@@ -1,0 +1,10 @@
+pub mod Numbers
+pub mod Sheets
+pub mod Orders
+pub mod Holdings
+pub mod Fillings
+pub mod Figures
+pub mod Limits
+pub mod Facts
+pub mod Cash
+pub mod Keys

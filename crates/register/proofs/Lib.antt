@@ -1,0 +1,6 @@
+mod Currencies
+mod CashPlaces
+mod Store
+mod Payments
+mod SameCodes
+mod Sheets

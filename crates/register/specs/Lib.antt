@@ -1,0 +1,5 @@
+pub mod Faults
+pub mod Keys
+pub mod State
+pub mod Answers
+pub mod Writes
