@@ -1,0 +1,23 @@
+use mathlib.Core.Path.{refl, ap, _∙_}
+use lib.IntN.{pos, negℤ}
+use Rattle.std.specs.declared.result.Result.the-variants.{Err}
+use Rattle.std.proofs.shelf.Results.{err-from-errBy}
+use Rattle.register.specs.State.{Pays}
+use Rattle.register.specs.Answers.{pays-out}
+use Rattle.desk.proofs.Calls.{refused, accepted}
+use Rattle.desk.proofs.service.Desk.pay_out.Needs as need
+
+pub returns-in-Break-pay-out : need.returns-in-Break-pay-out
+returns-in-Break-pay-out c =
+    let e = err-from-errBy (c .from-residual .result) (c .from-residual .ensures .1) in
+    let a = c .in-Break-pay-out .ensures tt in
+    let x = c .args .amount in
+    let h = refused (λ r. pays-out r (c .args .portfolio) (c .args .currency) x) (λ r t. Pays r (c .args .portfolio) (c .args .currency) (negℤ (pos x)) t) _ (c .in-Some .register) (c .pay-out .last .self) (c .in-Some .is) _ _ (e .1 ∙ ap Err (e .2)) (a .answer) (a .tables) in
+    record { is = h .0; leaves = (refl, h .1) }
+
+pub returns : need.returns
+returns c =
+    let a = c .in-Continue-pay-out .ensures tt in
+    let x = c .args .amount in
+    let h = accepted (λ r. pays-out r (c .args .portfolio) (c .args .currency) x) (λ r t. Pays r (c .args .portfolio) (c .args .currency) (negℤ (pos x)) t) _ (c .in-Some .register) (c .pay-out .last .self) (c .in-Some .is) _ (a .answer) (a .tables) in
+    record { is = h .0; leaves = (refl, h .1) }
