@@ -27,9 +27,9 @@ use Rattle.margin.specs.Orders.{less, signed, by-side, on, counted-price, less
 use Rattle.margin.specs.Holdings.{Holding, pieces-of, Lined}
 use Rattle.margin.specs.Fillings.{low, worst}
 use Rattle.margin.specs.Facts.{Fill}
+use Rattle.margin.proofs.IdleLines.{sum-on, ratio-on-le, worst-on, worst-whole}
 use Rattle.margin.proofs.Integers.{floor, mul-sum, mul-neg, mul-split, minus-le, plan-plus, floor-le, floor-plus, drag-le, le-eq}
 use Rattle.margin.proofs.Lines.{gain, base, drags, lowest}
-use Rattle.margin.proofs.NeverLower.{sum-on, ratio-on-le, worst-on, worst-whole}
 use Rattle.margin.proofs.Sums.{sum-le-all, sum-minus, least-le, least-shift}
 use Rattle.margin.proofs.WorstCase.{Rated, pieces-there}
 

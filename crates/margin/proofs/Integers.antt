@@ -82,6 +82,9 @@ mul-neg k z = omega (arith, ints, ap (λ n. up k * n) (neg-is z .0), ap (λ n. u
 pub plus-le : (c a b : ℤ) → a ≤ℤ b → (c +ℤ a) ≤ℤ (c +ℤ b)
 plus-le c a b h = omega (arith, ints)
 
+pub plus-both : (a b c d : ℤ) → a ≤ℤ b → c ≤ℤ d → (a +ℤ c) ≤ℤ (b +ℤ d)
+plus-both a b c d h k = omega (arith, ints)
+
 pub plus-le-right : (c a b : ℤ) → a ≤ℤ b → (a +ℤ c) ≤ℤ (b +ℤ c)
 plus-le-right c a b h = omega (arith, ints)
 
@@ -105,10 +108,6 @@ fewer-le n m g h = rw (← (min0-is-min g)) (fewer-le₀ n m g h)
 -- an order can lose, and not gain
 pub drag-none : (n : ℕ) (g : ℤ) → (pos n *ℤ minZ (pos 0) g) ≤ℤ pos 0
 drag-none n g = le-eq (fewer-le n 0 g (omega arith)) (omega (arith, ints))
-
--- a Sell's gain, as the rule has it
-pub neg-minus : (a b : ℤ) → negℤ (a -ℤ b) ≡ b -ℤ a
-neg-minus a b = omega (arith, ints)
 
 -- ---- tests
 pub less-than : (x y : ℤ) → ltZ x y ≡ true → x <ℤ y

@@ -5,6 +5,7 @@ pub mod Worths
 pub mod Lines
 pub mod WorstCase
 pub mod ListFillings
+pub mod IdleLines
 pub mod NeverLower
 pub mod Fills
 pub mod InOrder

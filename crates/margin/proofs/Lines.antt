@@ -21,7 +21,7 @@ use Rattle.margin.specs.Orders.{signed, on, counted-price}
 use Rattle.margin.specs.Holdings.{worth}
 use Rattle.margin.specs.Fillings.{Filling}
 use Rattle.margin.proofs.Integers.{floor, mul-sum, mul-neg, mul-mul, plus-le, floor-le, floor-plus, drag-le, all-or-none, all-or-none-fits, all-or-none-is, ≤ℤ-antisym}
-use Rattle.margin.proofs.Sums.{sum-same, sum-le-all, sum-linear, least-le, least-shift, least-at}
+use Rattle.margin.proofs.Sums.{all-each, sum-same, sum-le-all, sum-linear, least-le, least-shift, least-at}
 
 -- what one unit of the order brings on the piece p, in ten-thousandths
 abbrev pub gain : ℕ → Piece → Order → ℤ
@@ -89,17 +89,13 @@ against i p o = all-or-none (gain (i .price) p o) (o .left)
 pub against-fits : (i : Instrument) (p : Piece) (o : Order) → against i p o ≤ o .left
 against-fits i p o = all-or-none-fits (gain (i .price) p o) (o .left)
 
-all-against : (i : Instrument) (p : Piece) (os : List Order) → All (λ o. against i p o ≤ o .left) os
-all-against i p [] = tt
-all-against i p (o ∷ os) = (against-fits i p o, all-against i p os)
-
 pub line-reached : (ps : List Piece) → 0 < length ps → (i : Instrument) (q : ℤ) (os : List Order) → (p : Piece) × (value ps i q os (against i p) ≡ lowest ps i q os)
 line-reached [] n i q os = absurd (omega arith)
 line-reached (r ∷ ps) n i q os =
     let (p, e, k) = least-at (λ p. floor (base (i .price) q p +ℤ drags i os p)) r ps in
     let g : brings i os (against i p) p ≡ drags i os p = sum-same _ _ (λ o. ap (λ z. cond (on (i .code) o) z (pos 0)) (all-or-none-is (o .left) (gain (i .price) p o))) os in
     let h : value (r ∷ ps) i q os (against i p) ≤ℤ lowest (r ∷ ps) i q os = rw (value-is r ps i q os (against i p), e, ← g) (k (λ r. floor (base (i .price) q r +ℤ brings i os (against i p) r))) in
-    (p, ≤ℤ-antisym h (line-bound (r ∷ ps) n i q os (against i p) (all-against i p os)))
+    (p, ≤ℤ-antisym h (line-bound (r ∷ ps) n i q os (against i p) (all-each _ (against-fits i p) os)))
 
 -- a line's value depends on its own orders alone
 pub value-same : (ps : List Piece) (i : Instrument) (q : ℤ) (os : List Order) (f g : Filling) → ((o : Order) → on (i .code) o ≡ true → f o ≡ g o) → value ps i q os f ≡ value ps i q os g

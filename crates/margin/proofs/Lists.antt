@@ -14,7 +14,7 @@ pub by-test : {P : Type 0} (b : Bool) → (b ≡ true → P) → (b ≡ false �
 by-test true f g = f refl
 by-test false f g = g refl
 
--- ---- has
+-- ---- members
 pub has-here : {X : Type 0} (x : X) (xs : List X) → Has (x ∷ xs) x
 has-here x xs = (0, omega arith, λ d. refl)
 

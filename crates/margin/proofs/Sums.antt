@@ -20,14 +20,6 @@ pub all-each : {X : Type 0} (P : X → Type 0) → ((x : X) → P x) → (xs : L
 all-each P h [] = tt
 all-each P h (x ∷ xs) = (h x, all-each P h xs)
 
-pub all-kept : {X : Type 0} (P : X → Type 0) (t : X → Bool) (xs : List X) → All P xs → All P (kept-by t xs)
-all-kept P t [] a = tt
-all-kept P t (x ∷ xs) a = go (t x) (all-kept P t xs (a .1))
-  where
-    go : (b : Bool) → All P (kept-by t xs) → All P (cond b (x ∷ kept-by t xs) (kept-by t xs))
-    go true k = (a .0, k)
-    go false k = k
-
 module _ {X : Type 0} where
   pub sum-same-all : (g h : X → ℤ) (xs : List X) → All (λ x. g x ≡ h x) xs → total g xs ≡ total h xs
   sum-same-all g h [] e = refl

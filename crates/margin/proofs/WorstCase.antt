@@ -9,7 +9,7 @@ use lib.IntN.{ℤ, pos, _+ℤ_, *ℤ-comm}
 use lib.ListN.{length}
 use lib.Signed.{_≤ℤ_}
 use Rattle.std.specs.shelf.Lists.{All}
-use Rattle.std.proofs.shelf.Elements.{all-weaker}
+use Rattle.std.proofs.shelf.Elements.{all-kept-by, all-weaker}
 use Rattle.std.proofs.shelf.Signed.{ints}
 use Rattle.std.proofs.shelf.Tests.{cond-true, cond-false, ltb-true}
 use Rattle.std.proofs.shelf.Ways.{tells}
@@ -23,7 +23,7 @@ use Rattle.margin.specs.Holdings.{Holding, worth, pieces-of, held, equity, sho
 use Rattle.margin.specs.Fillings.{filled, Allowed, Worst-case, low, worst, Filling}
 use Rattle.margin.proofs.Integers.{mul-le, floor-le, plus-le, plus-le-right, le-eq}
 use Rattle.margin.proofs.Lines.{paid, value, line-bound, line-reached, against, against-fits, value-same}
-use Rattle.margin.proofs.Sums.{both-all, all-kept, sum-same, sum-same-all, sum-le, sum-le-all, sum-minus, least-le}
+use Rattle.margin.proofs.Sums.{all-each, both-all, sum-same, sum-same-all, sum-le, sum-le-all, sum-minus, least-le}
 
 -- ---- each map is monotone
 pub worth-le : (ps : List Piece) (P : ℕ) (x y : ℤ) → x ≤ℤ y → worth ps P x ≤ℤ worth ps P y
@@ -69,7 +69,7 @@ module _ (s : Sheet) where
   pub least-bound : Rated (s .instruments) → (h : Holding) (f : Filling) → Allowed f h → worst s h ≤ℤ first-ratio s (filled s f h)
   least-bound r h f a =
       le-eq
-      (ratio-le (low s h) (after f h) h h (λ c. plus-le (h .cash c) _ _ (sum-le-all _ _ (held s h c) (all-kept _ _ (s .instruments) (all-weaker (λ i. known s (i .code) ≡ true) (λ i. low s h i ≤ℤ after f h i) (λ i k. line-bound (pieces-of s i) (pieces-there i k) i (h .planned (i .code)) (h .orders) f a) (s .instruments) r)))))
+      (ratio-le (low s h) (after f h) h h (λ c. plus-le (h .cash c) _ _ (sum-le-all _ _ (held s h c) (all-kept-by _ _ (s .instruments) (all-weaker (λ i. known s (i .code) ≡ true) (λ i. low s h i ≤ℤ after f h i) (λ i k. line-bound (pieces-of s i) (pieces-there i k) i (h .planned (i .code)) (h .orders) f a) (s .instruments) r)))))
       (sym (after-filling f h))
 
   -- ---- one filling that is the worst for each line
@@ -103,18 +103,14 @@ module _ (s : Sheet) where
           f : Filling
           f o = cond (on (i .code) o) (against i p o) (g o)
 
-  allowed : (f : Filling) → ((o : Order) → f o ≤ o .left) → (os : List Order) → All (λ o. f o ≤ o .left) os
-  allowed f h [] = tt
-  allowed f h (o ∷ os) = (h o, allowed f h os)
-
   pub worst-least : Apart (λ i. i .code) (s .instruments) → Rated (s .instruments) → (h : Holding) → Worst-case s h (worst s h)
   worst-least a r h = record { bound = least-bound r h; reached = found (joint h (s .instruments) a r) }
     where
       found : Joint h (s .instruments) → (f : Filling) × Allowed f h × (first-ratio s (filled s f h) ≡ worst s h)
       found (f, fits, es) = (
         f,
-        allowed f fits (h .orders),
-        after-filling f h ∙ ratio-same (after f h) (low s h) h h (λ c. ap (λ z. h .cash c +ℤ z) (sum-same-all _ _ (held s h c) (all-kept _ _ (s .instruments) es))),
+        all-each _ fits (h .orders),
+        after-filling f h ∙ ratio-same (after f h) (low s h) h h (λ c. ap (λ z. h .cash c +ℤ z) (sum-same-all _ _ (held s h c) (all-kept-by _ _ (s .instruments) es))),
       )
 
 pub worst-is-least : (s : Sheet) → Closed s → (h : Holding) → Worst-case s h (worst s h)

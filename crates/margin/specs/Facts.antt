@@ -45,6 +45,11 @@ First-ratio-at-most-value = (s : Sheet) → Closed s → (h : Holding) → first
 abbrev pub Initial-margin-never-negative : Type 0
 Initial-margin-never-negative = (s : Sheet) → Closed s → (h : Holding) → pos 0 ≤ℤ figures-of s h .initial
 
+-- half of the initial margin, rounded up
+pub record Minimum-margin-is-half-rounded-up : Type 0 where
+  pub no-less : (s : Sheet) (h : Holding) → figures-of s h .initial ≤ℤ (pos 2 *ℤ figures-of s h .minimum)
+  pub by-one-at-most : (s : Sheet) (h : Holding) → (pos 2 *ℤ figures-of s h .minimum) ≤ℤ (figures-of s h .initial +ℤ pos 1)
+
 abbrev pub Worst-case-at-most-first-ratio : Type 0
 Worst-case-at-most-first-ratio = (s : Sheet) (h : Holding) → worst s h ≤ℤ first-ratio s h
 

@@ -1,5 +1,5 @@
 // What is true of one portfolio, each fact proved. The functions do nothing: a contract is where a fact is read.
-ghost use Rattle.margin.specs.Facts.{Worst-case-is-least-over-fillings, Fillings-are-lists, Nought-is-worth-nought, Worth-at-most-price-times-quantity, Shocked-at-most-itself, First-ratio-at-most-value, Initial-margin-never-negative, Worst-case-at-most-first-ratio, More-cash-never-lowers, More-units-never-lower, Fewer-orders-never-lower, Fill-within-own-price-never-lowers, Idle-lines-change-no-figure, Idle-lines-change-no-gross};
+ghost use Rattle.margin.specs.Facts.{Worst-case-is-least-over-fillings, Fillings-are-lists, Nought-is-worth-nought, Worth-at-most-price-times-quantity, Shocked-at-most-itself, First-ratio-at-most-value, Initial-margin-never-negative, Minimum-margin-is-half-rounded-up, Worst-case-at-most-first-ratio, More-cash-never-lowers, More-units-never-lower, Fewer-orders-never-lower, Fill-within-own-price-never-lowers, Idle-lines-change-no-figure, Idle-lines-change-no-gross};
 
 // The worst case, which a formula gives, is the least first ratio over all fillings of the standing orders.
 pub fn worst_case_is_least() -> u8
@@ -22,6 +22,7 @@ pub fn figures_in_order() -> u8
     ensures shocked { λ _. ⌜ Shocked-at-most-itself ⌝ }
     ensures first { λ _. ⌜ First-ratio-at-most-value ⌝ }
     ensures initial { λ _. ⌜ Initial-margin-never-negative ⌝ }
+    ensures minimum { λ _. ⌜ Minimum-margin-is-half-rounded-up ⌝ }
     ensures worst { λ _. ⌜ Worst-case-at-most-first-ratio ⌝ }
 {
     0

@@ -1,4 +1,4 @@
-use Rattle.margin.proofs.NeverLower.{figures-relined, gross-relined}
+use Rattle.margin.proofs.IdleLines.{figures-relined, gross-relined}
 use Rattle.margin.proofs.facts.idle_lines_count_nothing.Needs as need
 
 pub returns : need.returns

@@ -1,4 +1,4 @@
-use Rattle.margin.proofs.InOrder.{more-cash, more-units, fewer-orders}
+use Rattle.margin.proofs.NeverLower.{more-cash, more-units, fewer-orders}
 use Rattle.margin.proofs.Fills.{fill-never-lowers}
 use Rattle.margin.proofs.facts.worst_case_not_lowered.Needs as need
 

@@ -1,0 +1,16 @@
+pub mod Moments
+pub mod Orders
+pub mod Standing
+pub mod Kept
+pub mod Lines
+pub mod Untouched
+pub mod Portfolios
+pub mod Listed
+pub mod Room
+pub mod Notices
+pub mod Covers
+pub mod Grosses
+pub mod Worst
+pub mod Refusals
+pub mod Every
+pub mod Premises
