@@ -17,6 +17,18 @@ no-portfolio p = outside 1 65535 p
 abbrev pub no-currency : ℕ → Bool
 no-currency c = outside 1 999 c
 
+-- the code of an instrument
+abbrev pub no-code : ℕ → Bool
+no-code c = outside 1000 65535 c
+
+-- the number of an order
+abbrev pub no-number : ℕ → Bool
+no-number n = outside 1 4294967295 n
+
+-- a quantity, or a price
+abbrev pub no-quantity : ℕ → Bool
+no-quantity q = outside 1 1000000000 q
+
 -- an exchange rate in ten-thousandths of a rouble
 abbrev pub no-rate : ℕ → Bool
 no-rate fx = outside 1 10000000 fx

@@ -9,6 +9,7 @@ use lib.ListN.{length}
 use Rattle.std.specs.declared.option.Option.{Option}
 use Rattle.std.specs.declared.option.Option.the-variants.{Some, None}
 use Rattle.std.specs.Options.{isSome}
+use Rattle.book.specs.Ranges.{no-portfolio, no-currency, no-code, no-number, no-quantity, no-amount}
 use Rattle.margin.specs.declared.Instrument.{Instrument}
 use Rattle.margin.specs.declared.Order.{Order}
 use Rattle.margin.specs.Numbers.{any, below}
@@ -30,29 +31,6 @@ check b n = record { fails = b; number = n }
 abbrev pub first-of : List Check → Answer → Answer
 first-of [] a = a
 first-of (c ∷ cs) a = cond (c .fails) (refused (c .number)) (first-of cs a)
-
--- ---- 4: a number outside its range
-abbrev pub outside : ℕ → ℕ → ℕ → Bool
-outside low high n = ltb n low || ltb high n
-
-abbrev pub no-portfolio : ℕ → Bool
-no-portfolio p = outside 1 65535 p
-
-abbrev pub no-currency : ℕ → Bool
-no-currency c = outside 1 999 c
-
-abbrev pub no-code : ℕ → Bool
-no-code c = outside 1000 65535 c
-
-abbrev pub no-number : ℕ → Bool
-no-number n = outside 1 4294967295 n
-
--- of prices too
-abbrev pub no-quantity : ℕ → Bool
-no-quantity q = outside 1 1000000000 q
-
-abbrev pub no-amount : ℕ → Bool
-no-amount x = outside 1 200000000000 x
 
 -- ---- conditions, each on what the history says; `then` is the history as it would be if the call were accepted
 abbrev pub then : History → Call → History
