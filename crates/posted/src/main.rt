@@ -1,7 +1,6 @@
 // Runs the book on standard input against a register, and prints the outcome of each field: its number from 1, its tag, its
 // answer (0 where it is accepted), and the figures that it asked for.
 use desk::Outcome;
-use desk::Reply;
 use desk::run;
 use std::io;
 use std::io::Read;
@@ -9,27 +8,22 @@ use std::io::Read;
 // A book has at most so many bytes.
 const MOST_BYTES: u64 = 65_536;
 
-fn print_outcome(rt: &LibcRuntime, number: usize, outcome: &Outcome) -> io::Result<()> {
+fn print_outcome(rt: &LibcRuntime, field: usize, outcome: &Outcome) -> io::Result<()> {
     let tag = outcome.tag;
-    match &outcome.answer {
-        Ok(Reply::Done) => println!(rt, "{number} {tag:02x} 0"),
-        Ok(Reply::Told(figures)) => {
-            let value = figures.value;
-            let initial = figures.initial;
-            let minimum = figures.minimum;
-            let first = figures.first;
-            let second = figures.second;
-            let worst = figures.worst;
-            println!(
-                rt,
-                "{number} {tag:02x} 0 {value} {initial} {minimum} {first} {second} {worst}"
-            )
-        }
-        Err(fault) => {
-            let answer = fault.number();
-            println!(rt, "{number} {tag:02x} {answer}")
-        }
-    }
+    let answer = outcome.number();
+    let Some(figures) = outcome.figures() else {
+        return println!(rt, "{field} {tag:02x} {answer}");
+    };
+    let value = figures.value;
+    let initial = figures.initial;
+    let minimum = figures.minimum;
+    let first = figures.first;
+    let second = figures.second;
+    let worst = figures.worst;
+    println!(
+        rt,
+        "{field} {tag:02x} {answer} {value} {initial} {minimum} {first} {second} {worst}"
+    )
 }
 
 fn main(rt: LibcRuntime) -> io::Result<()> {

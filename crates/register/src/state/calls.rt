@@ -91,7 +91,7 @@ impl Register {
 
     // The six figures of a portfolio.
     pub fn figures(&self, portfolio: u16) -> Result<Figures, RegisterFault>
-        ensures { λ r. ⌜ r ≡ tells (now (self .entry)) portfolio ⌝ }
+        ensures answer { λ r. ⌜ r ≡ tells (now (self .entry)) portfolio ⌝ }
     {
         check_portfolio(portfolio, 0)?;
         let Some(row) = self.portfolios.get(portfolio) else {

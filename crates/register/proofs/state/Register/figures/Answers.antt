@@ -18,6 +18,9 @@ pub returns : need.returns
 returns c =
     let r = c .args .self .now in
     let there = sym (c .in-Some .ensures tt .value) in
-    passes _ out-of-range _ _ (not-refused _ 0 _ (c .in-Continue-check-portfolio .ensures tt))
-    (passes _ (refusal NoPortfolio) _ _ (ap (λ o. not (isSome o)) there)
-    (ap Ok (c .figures-of .ensures ∙ ap (λ (f : ℕ → ℤ). figures-of (in-force r) (cash-holding f)) (sym (cash-of-row r (c .args .portfolio) (c .in-Some .row) there)))))
+    record {
+      answer =
+          passes _ out-of-range _ _ (not-refused _ 0 _ (c .in-Continue-check-portfolio .ensures tt))
+          (passes _ (refusal NoPortfolio) _ _ (ap (λ o. not (isSome o)) there)
+          (ap Ok (c .figures-of .ensures ∙ ap (λ (f : ℕ → ℤ). figures-of (in-force r) (cash-holding f)) (sym (cash-of-row r (c .args .portfolio) (c .in-Some .row) there)))));
+    }
