@@ -1,21 +1,20 @@
 // Books cut short, damaged and too long, against the answers that they should have.
-use desk::Outcome;
-
-// The number of the answer and its place; of an accepted field, 0 and 0.
-pub fn told(outcome: &Outcome) -> (u8, usize) {
-    match &outcome.answer {
-        Ok(_) => (0, 0),
-        Err(fault) => (fault.number(), fault.place()),
-    }
-}
-
 #[cfg(test)]
 mod tests {
-    use super::*;
+    use desk::Outcome;
     use desk::run;
     use register::Layer;
     use std::alloc::Global;
     use std::test::*;
+
+    // The number of the answer and its place; of an accepted field, 0 and 0.
+    fn told(outcome: &Outcome) -> (u8, usize) {
+        let place = match &outcome.answer {
+            Ok(_) => 0,
+            Err(fault) => fault.place(),
+        };
+        (outcome.number(), place)
+    }
 
     // A rouble sheet, portfolio 1, 100,000 paid in, 100,001 paid out, figures.
     const FIRST: [u8; 52] = [
