@@ -4,3 +4,6 @@ mod Store
 mod Payments
 mod SameCodes
 mod Sheets
+mod Histories
+mod Steps
+mod NewSheets

@@ -3,3 +3,4 @@ pub mod Keys
 pub mod State
 pub mod Answers
 pub mod Writes
+pub mod Runs

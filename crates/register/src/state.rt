@@ -14,6 +14,7 @@ use keyed::Table;
 use margin::Currency;
 
 pub(crate) mod calls;
+pub(crate) mod checks;
 pub(crate) mod reads;
 pub(crate) mod sheets;
 

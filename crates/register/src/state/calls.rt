@@ -1,41 +1,27 @@
 // What is asked of the register. `answer` says which refusal comes, or what is answered, for every register that can
-// exist; `tables` says what it then holds. A refusal leaves it as it was.
+// exist; `tables` says what it then holds. A refusal leaves it as it was. `run` says: whatever was asked and answered
+// before, if that led to the register as it stood, then with this call and its answer it leads to the register as it
+// stands, by a lawful run.
 ghost use mathlib.Core.Path.{_≡_};
 ghost use lib.IntN.{pos, negℤ};
 ghost use Rattle.std.specs.Results.{Cases};
-ghost use Rattle.register.specs.Faults.{refusal};
+ghost use Rattle.rules.specs.Calls as calls;
+ghost use Rattle.rules.specs.Histories.{History, asked};
 ghost use Rattle.register.specs.State.{Unchanged, Opens, Pays};
 ghost use Rattle.register.specs.Answers.{opens, pays-in, pays-out, tells};
+ghost use Rattle.register.specs.Runs.{said, said-figures, Reached, Run};
 use super::Register;
-use super::reads::moved;
-use crate::faults::RegisterCause;
 use crate::faults::RegisterFault;
-use crate::faults::RegisterFromField;
-use crate::records::keys::PortfolioKeyed;
-use book::check_payment;
-use book::check_portfolio;
 use margin::Figures;
-
-fn refused(cause: RegisterCause) -> RegisterFault
-    ensures { λ r. ⌜ r ≡ refusal cause ⌝ }
-{
-    RegisterFault::State { cause, place: 0 }
-}
 
 impl Register {
     // Opens a portfolio, with no cash.
     pub fn open_portfolio(&mut self, portfolio: u16) -> Result<(), RegisterFault>
         ensures answer { λ r. ⌜ r ≡ opens (now (self .entry)) portfolio ⌝ }
         ensures tables { λ r. ⌜ Cases r (λ _. Opens (now (self .entry)) portfolio (now (self .exit))) (λ _. Unchanged (now (self .entry)) (now (self .exit))) ⌝ }
+        ensures run { λ r. ⌜ ((h : History) → Reached h (now (self .entry)) → Run (asked h (calls.open-portfolio portfolio) (said r)) (now (self .exit))) ⌝ }
     {
-        check_portfolio(portfolio, 0)?;
-        let None = self.portfolios.get(portfolio) else {
-            return Err(refused(RegisterCause::PortfolioExists));
-        };
-        let Ok(()) = self.add(portfolio) else {
-            return Err(refused(RegisterCause::NoPlace));
-        };
-        Ok(())
+        self.opening(portfolio)
     }
 
     // Pays cash in.
@@ -47,19 +33,9 @@ impl Register {
     ) -> Result<(), RegisterFault>
         ensures answer { λ r. ⌜ r ≡ pays-in (now (self .entry)) portfolio currency amount ⌝ }
         ensures tables { λ r. ⌜ Cases r (λ _. Pays (now (self .entry)) portfolio currency (pos amount) (now (self .exit))) (λ _. Unchanged (now (self .entry)) (now (self .exit))) ⌝ }
+        ensures run { λ r. ⌜ ((h : History) → Reached h (now (self .entry)) → Run (asked h (calls.pay-in portfolio currency amount) (said r)) (now (self .exit))) ⌝ }
     {
-        check_payment(portfolio, currency, amount, 0)?;
-        let Some(row) = self.portfolios.get(portfolio) else {
-            return Err(refused(RegisterCause::NoPortfolio));
-        };
-        let Some(place) = self.place_of(currency) else {
-            return Err(refused(RegisterCause::CodeMissing));
-        };
-        let Some(cash) = moved(row.cash, place, amount as i64) else {
-            return Err(refused(RegisterCause::Gross));
-        };
-        self.post(portfolio, cash);
-        Ok(())
+        self.paying_in(portfolio, currency, amount)
     }
 
     // Pays cash out.
@@ -71,32 +47,16 @@ impl Register {
     ) -> Result<(), RegisterFault>
         ensures answer { λ r. ⌜ r ≡ pays-out (now (self .entry)) portfolio currency amount ⌝ }
         ensures tables { λ r. ⌜ Cases r (λ _. Pays (now (self .entry)) portfolio currency (negℤ (pos amount)) (now (self .exit))) (λ _. Unchanged (now (self .entry)) (now (self .exit))) ⌝ }
+        ensures run { λ r. ⌜ ((h : History) → Reached h (now (self .entry)) → Run (asked h (calls.pay-out portfolio currency amount) (said r)) (now (self .exit))) ⌝ }
     {
-        check_payment(portfolio, currency, amount, 0)?;
-        let Some(row) = self.portfolios.get(portfolio) else {
-            return Err(refused(RegisterCause::NoPortfolio));
-        };
-        let Some(place) = self.place_of(currency) else {
-            return Err(refused(RegisterCause::CodeMissing));
-        };
-        let Some(cash) = moved(row.cash, place, -(amount as i64)) else {
-            return Err(refused(RegisterCause::Gross));
-        };
-        let false = self.is_worse(&row.cash, &cash) else {
-            return Err(refused(RegisterCause::WorstCase));
-        };
-        self.post(portfolio, cash);
-        Ok(())
+        self.paying_out(portfolio, currency, amount)
     }
 
     // The six figures of a portfolio.
     pub fn figures(&self, portfolio: u16) -> Result<Figures, RegisterFault>
         ensures answer { λ r. ⌜ r ≡ tells (now (self .entry)) portfolio ⌝ }
+        ensures run { λ r. ⌜ ((h : History) → Reached h (now (self .entry)) → Run (asked h (calls.figures portfolio) (said-figures r)) (now (self .entry))) ⌝ }
     {
-        check_portfolio(portfolio, 0)?;
-        let Some(row) = self.portfolios.get(portfolio) else {
-            return Err(refused(RegisterCause::NoPortfolio));
-        };
-        Ok(self.figures_of(&row.cash))
+        self.telling(portfolio)
     }
 }

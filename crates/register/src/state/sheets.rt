@@ -10,12 +10,15 @@ ghost use Rattle.std.specs.Vec.{made};
 ghost use Rattle.book.specs.Checks.{check, first-of};
 ghost use Rattle.keyed.specs.Tables.{Fresh};
 ghost use Rattle.margin.specs.Cash.{cash-sheet};
+ghost use Rattle.rules.specs.Calls.{put-in-force};
+ghost use Rattle.rules.specs.Histories.{History, Places, opened-with, asked};
 ghost use Rattle.sheet.specs.declared.faults.SheetCause.the-variants.{Unfit};
 ghost use Rattle.sheet.specs.Faults.{refusal};
 ghost use Rattle.sheet.specs.Drafts.{As-closed, closed-entries};
 ghost use Rattle.register.specs.Keys.{portfolio-number};
 ghost use Rattle.register.specs.State.{Unchanged, Begins, Puts};
 ghost use Rattle.register.specs.Answers.{same-codes, puts};
+ghost use Rattle.register.specs.Runs.{said-put, Reached, Run};
 use super::Register;
 use crate::faults::RegisterFault;
 use crate::faults::RegisterFromSheet;
@@ -85,9 +88,7 @@ fn overwrite(currencies: &mut Vec<Currency>, entries: &[Currency])
 }
 
 impl Register {
-    // The register that a first closed sheet opens, with so many places for portfolios, of which at most 1,024 serve.
-    // Without the memory for it the sheet comes back.
-    pub fn begin(
+    fn beginning(
         heap: Global,
         closed: ClosedSheet,
         table: &[Currency],
@@ -109,8 +110,7 @@ impl Register {
         }
     }
 
-    // Puts a later closed sheet in force. One that is refused comes back.
-    pub fn put_in_force(
+    fn putting(
         &mut self,
         closed: ClosedSheet,
         table: &[Currency],
@@ -126,5 +126,34 @@ impl Register {
         overwrite(&mut self.currencies, entries);
         closed.discard();
         Ok(())
+    }
+
+    // The register that a first closed sheet opens, with so many places for portfolios, of which at most 1,024 serve.
+    // Without the memory for it the sheet comes back.
+    pub fn begin(
+        heap: Global,
+        closed: ClosedSheet,
+        table: &[Currency],
+        places: usize,
+    ) -> Result<Register, (AllocError, ClosedSheet)>
+        requires as_closed { ⌜ As-closed closed (now table) ⌝ }
+        ensures tables { λ r. ⌜ Cases r (λ t. Begins (cash-sheet (closed-entries closed (now (table .entry)))) (min places 1024) t) (λ x. x .1 ≡ closed) ⌝ }
+        ensures run { λ r. ⌜ made r (λ t. (room : Places) → room .portfolios ≡ min places 1024 → Run (opened-with (cash-sheet (closed-entries closed (now (table .entry)))) room) t) ⌝ }
+    {
+        Register::beginning(heap, closed, table, places)
+    }
+
+    // Puts a later closed sheet in force. One that is refused comes back.
+    pub fn put_in_force(
+        &mut self,
+        closed: ClosedSheet,
+        table: &[Currency],
+    ) -> Result<(), (RegisterFault, ClosedSheet)>
+        requires as_closed { ⌜ As-closed closed (now table) ⌝ }
+        ensures answer { λ r. ⌜ r ≡ puts (now (self .entry)) closed (now (table .entry)) ⌝ }
+        ensures tables { λ r. ⌜ Cases r (λ _. Puts (now (self .entry)) (cash-sheet (closed-entries closed (now (table .entry)))) (now (self .exit))) (λ _. Unchanged (now (self .entry)) (now (self .exit))) ⌝ }
+        ensures run { λ r. ⌜ ((h : History) → Reached h (now (self .entry)) → Run (asked h (put-in-force (cash-sheet (closed-entries closed (now (table .entry))))) (said-put r)) (now (self .exit))) ⌝ }
+    {
+        self.putting(closed, table)
     }
 }

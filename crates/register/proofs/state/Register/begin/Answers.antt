@@ -1,12 +1,5 @@
-use mathlib.Core.Path.{_≡_, ap, _∙_}
-use Prim.Native.Nat.{ℕ, _-_}
-use native.Mathlib.Omega.{arith}
-use lib.ListN.{take}
-use Rattle.register.proofs.Sheets.{begins}
+use Rattle.register.proofs.NewSheets.{begun-run}
 use Rattle.register.proofs.state.Register.begin.Needs as need
 
-pub returns-in-Ok : need.returns-in-Ok
-returns-in-Ok c =
-    let m = c .in-Ok .ensures tt in
-    let n : c .currencies .result - 0 ≡ c .args .closed .currencies = omega arith in
-    record { tables = begins _ _ _ (m .0 ∙ ap (λ (k : ℕ). take k (c .args .table .now)) n) (m .1) }
+pub returns : need.returns
+returns c = record { tables = c .beginning .ensures .tables; run = begun-run (c .args .closed) (c .args .table .now) _ (c .beginning .result) (c .pre .as-closed) (c .beginning .ensures .tables) }
