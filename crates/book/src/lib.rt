@@ -16,6 +16,8 @@ pub use numbers::two;
 pub use ranges::check_currency;
 pub use ranges::check_payment;
 pub use ranges::check_portfolio;
+pub use ranges::check_posted;
+pub use ranges::check_stepped;
 pub use reader::Item;
 pub use reader::next_item;
 pub use reader::read_book;
