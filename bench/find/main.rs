@@ -1,19 +1,19 @@
-// Finding among 8,192 rates: the proved `find` beside Rust's `binary_search_by_key`.
+// Finding among 8,192 rows: the proved `find` beside Rust's `binary_search_by_key`.
 use std::hint::black_box;
 use std::time::Instant;
 
 #[repr(C)]
-struct Rate {
+struct Row {
     code: u32,
-    weight: u32,
-    price: u64,
+    price: u32,
+    amount: u64,
 }
 
 unsafe extern "C" {
-    fn find_rate(rates: *const Rate, len: usize, used: usize, code: u32) -> usize;
+    fn find_row(rows: *const Row, len: usize, used: usize, code: u32) -> usize;
 }
 
-const RATES: usize = 8_192;
+const ROWS: usize = 8_192;
 const FINDS: u32 = 5_000_000;
 
 // Codes at random, of which about half stand in the table.
@@ -22,7 +22,7 @@ fn codes(mut seed: u32) -> impl Iterator<Item = u32> {
         seed ^= seed << 13;
         seed ^= seed >> 17;
         seed ^= seed << 5;
-        seed % (2 * RATES as u32)
+        seed % (2 * ROWS as u32)
     })
 }
 
@@ -34,11 +34,11 @@ fn timed(name: &str, mut find: impl FnMut(u32) -> usize) -> usize {
 }
 
 fn main() {
-    let rates: Vec<Rate> = (0..RATES as u32).map(|n| Rate { code: 2 * n, weight: n % 100, price: u64::from(n) }).collect();
+    let rows: Vec<Row> = (0..ROWS as u32).map(|n| Row { code: 2 * n, price: n % 100, amount: u64::from(n) }).collect();
     let mut sums = Vec::new();
     for _ in 0..3 {
-        sums.push(timed("keyed::find", |code| unsafe { find_rate(rates.as_ptr(), rates.len(), rates.len(), code) }));
-        sums.push(timed("binary_search", |code| rates.binary_search_by_key(&code, |rate| rate.code).unwrap_or(rates.len())));
+        sums.push(timed("keyed::find", |code| unsafe { find_row(rows.as_ptr(), rows.len(), rows.len(), code) }));
+        sums.push(timed("binary_search", |code| rows.binary_search_by_key(&code, |row| row.code).unwrap_or(rows.len())));
     }
     assert!(sums.iter().all(|sum| *sum == sums[0]), "the two disagree");
 }

@@ -1,7 +1,7 @@
 -- The ranges of numbers: each test says that a number is outside its range.
 use Prim.Native.Nat.{ℕ}
 use mathlib.Core.Bool.{Bool, true, false, _||_}
-use lib.Dec.{ltb}
+use lib.Dec.{eqb, ltb}
 use Rattle.std.specs.declared.result.Result.{Result}
 use Rattle.std.specs.declared.result.Result.the-variants.{Ok, Err}
 use Rattle.book.specs.declared.faults.FieldCause.the-variants.{Range}
@@ -30,11 +30,27 @@ abbrev pub no-quantity : ℕ → Bool
 no-quantity q = outside 1 1000000000 q
 
 -- an exchange rate in ten-thousandths of a rouble
-abbrev pub no-rate : ℕ → Bool
-no-rate fx = outside 1 10000000 fx
+abbrev pub no-fx : ℕ → Bool
+no-fx fx = outside 1 10000000 fx
 
 abbrev pub no-amount : ℕ → Bool
 no-amount x = outside 1 200000000000 x
+
+-- no rate is entered for code 0 or for the rouble
+abbrev pub no-rated-code : ℕ → Bool
+no-rated-code c = eqb c 0 || eqb c 643
+
+-- a risk rate in ten-thousandths
+abbrev pub no-risk-rate : ℕ → Bool
+no-risk-rate d = ltb 10000 d
+
+-- three risk rates that do not fall
+abbrev pub no-steps : ℕ → ℕ → ℕ → Bool
+no-steps s1 s2 s3 = ltb s2 s1 || ltb s3 s2 || no-risk-rate s3
+
+-- two limits that do not fall
+abbrev pub no-limits : ℕ → ℕ → Bool
+no-limits k1 k2 = ltb k2 k1
 
 -- refusal 4 at a place, where a number is outside its range
 abbrev pub ranged : Bool → ℕ → Result (Unit {0}) FieldFault

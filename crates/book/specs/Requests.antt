@@ -1,7 +1,7 @@
 -- What a field asks, in numbers.
 use Prim.Native.Nat.{ℕ}
 use mathlib.Core.Path.{_≡_}
-use mathlib.Core.Bool.{Bool, true, false, cond, _||_}
+use mathlib.Core.Bool.{Bool, false, cond, _||_}
 use mathlib.Core.List.{List}
 use lib.Dec.{eqb}
 use lib.ListN.{take, drop}
@@ -9,7 +9,7 @@ use Rattle.book.specs.declared.fields.Payment.{Payment}
 use Rattle.book.specs.declared.fields.Kind.{Kind}
 use Rattle.book.specs.declared.fields.Kind.the-variants.{Currency, PutInForce, Open, PayIn, PayOut, Figures}
 use Rattle.book.specs.Numbers.{number}
-use Rattle.book.specs.Ranges.{no-portfolio, no-currency, no-rate, no-amount}
+use Rattle.book.specs.Ranges.{no-portfolio, no-currency, no-fx, no-amount}
 
 pub data Request : Type 0 where
   enter-currency : (code fx : ℕ) → Request
@@ -34,7 +34,7 @@ request t bs =
 
 -- a number of the request is outside its range
 abbrev pub out-of-range : Request → Bool
-out-of-range (enter-currency c x) = no-currency c || no-rate x
+out-of-range (enter-currency c x) = no-currency c || no-fx x
 out-of-range put-in-force = false
 out-of-range (open-portfolio p) = no-portfolio p
 out-of-range (pay-in p c x) = no-portfolio p || no-currency c || no-amount x

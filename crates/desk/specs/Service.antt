@@ -1,8 +1,8 @@
 -- What the desk answers to each field of a book, and what it then holds.
 use mathlib.Core.Path.{_≡_}
-use mathlib.Core.List.{List, [], _∷_, _++_}
+use mathlib.Core.List.{List, [], _∷_}
 use Prim.Native.Nat.{ℕ}
-use lib.IntN.{ℤ, pos, negℤ}
+use lib.IntN.{pos, negℤ}
 use Rattle.std.specs.Results.{Cases}
 use Rattle.std.specs.declared.option.Option.{Option}
 use Rattle.std.specs.declared.option.Option.the-variants.{Some, None}
@@ -27,7 +27,6 @@ use Rattle.register.specs.declared.state.Register.{Register}
 use Rattle.register.specs.Faults.{fault-at}
 use Rattle.register.specs.State.{Unchanged, Opens, Pays, Puts, Begins}
 use Rattle.register.specs.Answers.{opens, pays-in, pays-out, tells, puts}
-use Rattle.desk.specs.declared.drafting.Drafting.{Drafting}
 use Rattle.desk.specs.declared.replies.Outcome.{Outcome}
 use Rattle.desk.specs.declared.replies.Reply.{Reply}
 use Rattle.desk.specs.declared.replies.Reply.the-variants.{Done, Told}

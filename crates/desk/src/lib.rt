@@ -5,5 +5,4 @@ mod service;
 
 pub use replies::Outcome;
 pub use replies::Reply;
-pub use service::Desk;
 pub use service::runs::run;

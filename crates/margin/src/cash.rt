@@ -1,9 +1,9 @@
 // The figures of a portfolio that holds cash alone, under a sheet with no instrument and no rates.
 ghost use mathlib.Core.Path.{_≡_};
 ghost use mathlib.Core.Bool.{cond};
-ghost use Prim.Native.Nat.{ℕ, _*_, _+_, _^_, _≤_, _<_};
+ghost use Prim.Native.Nat.{_^_, _≤_};
 ghost use lib.Dec.{eqb};
-ghost use lib.IntN.{pos, natAbs, _*ℤ_, _-ℤ_};
+ghost use lib.IntN.{pos, natAbs, _*ℤ_};
 ghost use lib.ListN.{length};
 ghost use Rattle.margin.specs.Numbers.{down, half-up};
 ghost use Rattle.margin.specs.Sheets.{Apart};
@@ -24,9 +24,9 @@ pub fn in_roubles(amount: i64, fx: u32) -> i128
 
 // Half, rounded up.
 fn half_up(z: i128) -> i128
-    requires { ⌜ natAbs z ≤ 2 ^ 101 ⌝ }
+    requires { ⌜ natAbs z ≤ 2 ^ 121 ⌝ }
     ensures is { λ r. ⌜ r ≡ half-up z ⌝ }
-    ensures small { λ r. ⌜ natAbs r ≤ 2 ^ 101 ⌝ }
+    ensures small { λ r. ⌜ natAbs r ≤ 2 ^ 121 ⌝ }
 {
     (z + 1).div_euclid(2)
 }
@@ -39,9 +39,9 @@ fn shocked(currency: u16, cash: i64) -> i64
 }
 
 // The six figures from the value, the first ratio and the worst case.
-fn figures(value: i128, first: i128, worst: i128) -> Figures
-    requires value { ⌜ natAbs value ≤ 2 ^ 100 ⌝ }
-    requires first { ⌜ natAbs first ≤ 2 ^ 100 ⌝ }
+pub fn figures_from(value: i128, first: i128, worst: i128) -> Figures
+    requires value { ⌜ natAbs value ≤ 2 ^ 120 ⌝ }
+    requires first { ⌜ natAbs first ≤ 2 ^ 120 ⌝ }
     ensures { λ r. ⌜ r ≡ figures-from value first worst ⌝ }
 {
     let initial = value - first;
@@ -68,5 +68,5 @@ pub fn cash_figures(currencies: &[Currency], cash: &[i64; 8]) -> Figures
         value += in_roubles(cash[i], currency.fx);
         first += in_roubles(shocked(currency.code, cash[i]), currency.fx);
     }
-    figures(value, first, first)
+    figures_from(value, first, first)
 }

@@ -63,5 +63,7 @@ pub mod facts;
 mod keys;
 
 pub use cash::cash_figures;
+pub use cash::figures_from;
 pub use cash::in_roubles;
 pub use keys::CurrencyKeyed;
+pub use keys::InstrumentKeyed;

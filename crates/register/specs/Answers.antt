@@ -1,5 +1,4 @@
 -- The answer to each call: the first check that fails gives it.
-use mathlib.Core.Path.{_≡_}
 use mathlib.Core.Bool.{Bool, true, false, cond, not, _&&_, _||_}
 use mathlib.Core.List.{List, [], _∷_}
 use Prim.Native.Nat.{ℕ}
@@ -12,7 +11,7 @@ use Rattle.book.specs.Checks.{check, first-of}
 use Rattle.book.specs.Ranges.{no-portfolio, no-currency, no-amount}
 use Rattle.margin.specs.declared.Currency.{Currency}
 use Rattle.margin.specs.declared.Figures.{Figures}
-use Rattle.margin.specs.Sheets.{Sheet, currency-at}
+use Rattle.margin.specs.Sheets.{currency-at}
 use Rattle.margin.specs.Holdings.{Holding}
 use Rattle.margin.specs.Figures.{figures-of}
 use Rattle.margin.specs.Limits.{over-gross, worsens}

@@ -11,7 +11,7 @@ use Rattle.std.specs.Holes.{inserted}
 use Rattle.std.specs.declared.option.Option.{Option}
 use Rattle.std.specs.declared.result.Result.the-variants.{Ok, Err}
 use Rattle.std.proofs.shelf.Tests.{le-leb, lt-leb}
-use Rattle.book.specs.Ranges.{no-currency, no-rate}
+use Rattle.book.specs.Ranges.{no-currency, no-fx}
 use Rattle.book.proofs.Answers.{fails, passes}
 use Rattle.keyed.specs.Rows.{Rising, lookup, Stands, Gap}
 use Rattle.keyed.proofs.Lookups.{lookup-at, lookup-gap, rising-inserted}
@@ -23,7 +23,7 @@ use Rattle.sheet.specs.declared.faults.SheetCause.the-variants.{Entered, Full}
 use Rattle.sheet.specs.Faults.{out-of-range, refusal}
 use Rattle.sheet.specs.Drafts.{entries, In-order, most, enters, Entered-in}
 
-module _ (d : Draft) (table : List Currency) (code fx : ℕ) (ranged : (no-currency code || no-rate fx) ≡ false) (o : In-order d table) where
+module _ (d : Draft) (table : List Currency) (code fx : ℕ) (ranged : (no-currency code || no-fx fx) ≡ false) (o : In-order d table) where
   found : (i : ℕ) → Stands currency-code (entries d table) code i → isSome (lookup currency-code (entries d table) code) ≡ true
   found i s =
       let x : Currency = record { code = 0; fx = 0 } in

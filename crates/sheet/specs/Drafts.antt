@@ -1,6 +1,6 @@
 -- What a draft and a closed sheet say of the tables that go with them.
 use mathlib.Core.Path.{_≡_}
-use mathlib.Core.Bool.{Bool, true, false, cond, not, _&&_, _||_}
+use mathlib.Core.Bool.{Bool, false, cond, not, _&&_, _||_}
 use mathlib.Core.List.{List, [], _∷_}
 use Prim.Native.Nat.{ℕ, _+_, _≤_, min}
 use lib.Dec.{eqb, leb}
@@ -9,7 +9,7 @@ use Rattle.std.specs.Options.{isSome}
 use Rattle.std.specs.declared.result.Result.{Result}
 use Rattle.std.specs.declared.result.Result.the-variants.{Ok, Err}
 use Rattle.book.specs.Checks.{check, first-of}
-use Rattle.book.specs.Ranges.{no-currency, no-rate}
+use Rattle.book.specs.Ranges.{no-currency, no-fx}
 use Rattle.keyed.specs.Rows.{Rising, lookup, with-row}
 use Rattle.margin.specs.declared.Currency.{Currency}
 use Rattle.margin.specs.Keys.{currency-code}
@@ -40,7 +40,7 @@ most table = min 8 (length table)
 abbrev pub enters : Draft → List Currency → ℕ → ℕ → Result (Unit {0}) SheetFault
 enters d table code fx =
     first-of (
-    check (no-currency code || no-rate fx) out-of-range
+    check (no-currency code || no-fx fx) out-of-range
     ∷ check (isSome (lookup currency-code (entries d table) code)) (refusal Entered)
     ∷ check (leb (most table) (d .currencies)) (refusal Full)
     ∷ []) tt

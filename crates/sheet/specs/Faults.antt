@@ -1,6 +1,5 @@
 -- The number and the place of each fault of a sheet.
 use Prim.Native.Nat.{ℕ}
-use Rattle.book.specs.declared.faults.FieldFault.{FieldFault}
 use Rattle.book.specs.declared.faults.FieldCause.the-variants.{Range}
 use Rattle.book.specs.Faults.{field-number, fault}
 use Rattle.sheet.specs.declared.faults.SheetCause.{SheetCause}

@@ -1,11 +1,8 @@
 // A draft and a closed sheet are moved values of plain numbers: how many of the places of their tables they use. The
 // tables are given to each call.
 ghost use mathlib.Core.Path.{_≡_};
-ghost use Prim.Native.Nat.{_≤_};
-ghost use lib.ListN.{length};
 ghost use Rattle.std.specs.Results.{Cases};
 ghost use Rattle.std.specs.Vec.{made};
-ghost use Rattle.margin.specs.Numbers.{any};
 ghost use Rattle.margin.specs.Cash.{cash-sheet};
 ghost use Rattle.sheet.specs.Faults.{refusal};
 ghost use Rattle.sheet.specs.Drafts.{In-order, enters, Entered-in, has-rouble-at-par, has-unrated, incomplete, closes, As-closed};

@@ -2,7 +2,6 @@
 ghost use mathlib.Core.Path.{_≡_};
 ghost use Rattle.sheet.specs.declared.faults.SheetFault.the-variants.{Field as InField};
 ghost use Rattle.sheet.specs.Faults.{sheet-number, sheet-place, sheet-at};
-use book::FieldCause;
 use book::FieldFault;
 
 #[derive(Clone, Copy)]

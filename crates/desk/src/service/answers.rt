@@ -1,7 +1,5 @@
 // What the desk answers to each field. A call before a sheet is in force meets 27.
 ghost use mathlib.Core.Path.{_≡_};
-ghost use lib.IntN.{pos, negℤ};
-ghost use Rattle.std.specs.Results.{Cases};
 ghost use Rattle.std.specs.Vec.{made};
 ghost use Rattle.std.specs.declared.result.Result.the-variants.{Ok};
 ghost use Rattle.book.specs.Requests.{enter-currency, put-in-force, open-portfolio, pay-in, pay-out, figures, asked};
@@ -38,7 +36,7 @@ const NOT_IN_FORCE: RegisterFault = RegisterFault::Sheet(SheetFault::State {
 
 impl Desk {
     // An empty draft, and no sheet in force.
-    pub fn begin() -> Desk
+    pub(crate) fn begin() -> Desk
         ensures { λ r. ⌜ Begun r ⌝ }
     {
         Desk {
@@ -47,7 +45,7 @@ impl Desk {
         }
     }
 
-    pub fn discard(self) {
+    pub(crate) fn discard(self) {
         let Desk {
             drafting,
             register: _,
@@ -180,7 +178,7 @@ impl Desk {
     }
 
     // The outcome of a field. A refusal has the field's place.
-    pub fn serve(&mut self, heap: Global, item: &Item) -> Result<Outcome, AllocError>
+    pub(crate) fn serve(&mut self, heap: Global, item: &Item) -> Result<Outcome, AllocError>
         ensures { λ r. ⌜ made r (λ o. Serves (now (self .entry)) (seen (now (item .entry))) o (now (self .exit))) ⌝ }
     {
         let tag = item.tag;

@@ -1,5 +1,4 @@
 // A whole book.
-ghost use mathlib.Core.Path.{_≡_};
 ghost use mathlib.Core.List.{map};
 ghost use Rattle.std.specs.Of.Vec.{vec-items};
 ghost use Rattle.std.specs.Vec.{made};
@@ -14,7 +13,7 @@ use std::alloc::Global;
 
 impl Desk {
     // The outcomes of fields in their order.
-    pub fn serve_all(&mut self, heap: Global, items: &[Item]) -> Result<Vec<Outcome>, AllocError>
+    pub(crate) fn serve_all(&mut self, heap: Global, items: &[Item]) -> Result<Vec<Outcome>, AllocError>
         ensures { λ r. ⌜ made r (λ v. Served (now (self .entry)) (map seen (now (items .entry))) (vec-items v) (now (self .exit))) ⌝ }
     {
         let mut outcomes = Vec::new(heap);

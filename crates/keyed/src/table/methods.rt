@@ -100,6 +100,13 @@ impl<R: Keyed + Copy> Table<R> {
         }
     }
 
+    // Takes every record out.
+    pub fn clear(&mut self)
+        ensures { λ _. ⌜ Fresh (R·Keyed .key) (now (self .exit)) (room (now (self .entry))) ⌝ }
+    {
+        self.used = 0;
+    }
+
     // Where the key stands, or else where it would.
     fn place(&self, key: R::Key) -> Result<usize, usize>
         requires { ⌜ Sound (R·Keyed .key) (now self) ⌝ }

@@ -1,19 +1,17 @@
 // How the register is read and written, and how cash is judged.
 ghost use mathlib.Core.Path.{_≡_};
-ghost use mathlib.Core.Bool.{true, false, cond, not, _&&_};
-ghost use Prim.Native.Nat.{ℕ, _<_, _≤_};
-ghost use lib.Dec.{ltb};
-ghost use lib.IntN.{ℤ, pos, natAbs, _+ℤ_};
-ghost use lib.ListN.{getD, set};
+ghost use mathlib.Core.Bool.{true};
+ghost use Prim.Native.Nat.{_<_, _≤_};
+ghost use lib.IntN.{pos, natAbs, _+ℤ_};
+ghost use lib.ListN.{getD};
 ghost use Rattle.std.specs.Options.{Cases as BySome};
 ghost use Rattle.std.specs.Slices.{found};
-ghost use Rattle.std.specs.declared.option.Option.the-variants.{Some, None};
 ghost use Rattle.keyed.specs.Rows.{Stands};
 ghost use Rattle.margin.specs.Keys.{currency-code};
 ghost use Rattle.margin.specs.Cash.{cash-by, cash-holding};
 ghost use Rattle.margin.specs.Figures.{figures-of};
 ghost use Rattle.margin.specs.Limits.{worsens};
-ghost use Rattle.register.specs.State.{currencies, in-force, portfolio, is-open};
+ghost use Rattle.register.specs.State.{currencies, in-force, is-open};
 ghost use Rattle.register.specs.Answers.{missing};
 ghost use Rattle.register.specs.Writes.{Small, Adds, Writes, moved-to};
 use super::Register;

@@ -34,7 +34,7 @@ loop-i-again c =
 pub returns : need.returns
 returns c l a =
     let all : take (c .loop-i .i) (c .args .currencies .now) ≡ c .args .currencies .now = take-all _ _ (omega arith) in
-    c .figures .ensures
+    c .figures-from .ensures
     ∙ cash-figures-are (c .args .currencies .now) (c .args .cash .now) a (omega arith) _ _
     (c .loop-i .inv .0 ∙ ap (λ (cs : List Currency). by-place valued cs (c .args .cash .now)) all)
     (c .loop-i .inv .1 ∙ ap (λ (cs : List Currency). by-place at-risk cs (c .args .cash .now)) all)

@@ -5,7 +5,7 @@ use borrow.Author.Differences.{ints}
 use mir.Syntax.{w128}
 use mir.Val.{SFits}
 use Rattle.std.proofs.shelf.Signed.{toZ-ofZ}
-use Rattle.margin.proofs.cash.figures.Needs as need
+use Rattle.margin.proofs.cash.figures_from.Needs as need
 
 pub returns : need.returns
 returns c =

@@ -1,0 +1,8 @@
+use native.Mathlib.Omega.{arith}
+use Rattle.sources.proofs.Products.{limit-by-step}
+use Rattle.sources.proofs.stepped.rates.third.Needs as need
+
+pub add-result : need.add-result
+add-result c =
+    let small = limit-by-step (c .from .result) (c .from-2 .result) (omega arith) (omega arith) in
+    omega arith

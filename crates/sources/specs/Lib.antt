@@ -1,0 +1,4 @@
+pub mod Keys
+pub mod Entering
+pub mod Posted
+pub mod Stepped
