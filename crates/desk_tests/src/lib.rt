@@ -100,7 +100,7 @@ mod tests {
         Ok(())
     }
 
-    // Every refusal that a book of cash can meet, and its place: no sheet yet, unknown tags, wrong lengths, numbers out of
+    // Refusals with their places: no sheet yet, unknown tags, wrong lengths, numbers out of
     // range, codes twice, a full draft, sheets that do not close, portfolios and payments refused.
     const FAULTS: [u8; 406] = [
         16,
@@ -614,5 +614,20 @@ mod tests {
         check_eq(last_of(rt.alloc(), 21_845, 3)?, (21_846, (1, 65_536)))?;
         check_eq(last_of(rt.alloc(), 21_844, 4)?, (21_846, (1, 65_536)))?;
         check_eq(last_of(rt.alloc(), 30_000, 0)?, (21_846, (1, 65_536)))
+    }
+
+    // A rouble sheet in force, and then portfolios 1 to 65 opened: the last finds no place.
+    #[test]
+    fn sixty_five_portfolios(rt: LibcRuntime) -> Result<(), Fail> {
+        let mut book = Vec::new(rt.alloc());
+        book.extend_from_slice(&FIRST[0..12])?;
+        for n in 1..66u8 {
+            book.extend_from_slice(&[0x10, 0, 2, 0, n])?;
+        }
+        let outcomes = run(rt.alloc(), book.as_slice())?;
+        check(outcomes.len() == 67)?;
+        check_eq(told(&outcomes[65]), (0, 0))?;
+        check_eq(told(&outcomes[66]), (22, 333))?;
+        check_eq(outcomes[66].tag, 0x10)
     }
 }

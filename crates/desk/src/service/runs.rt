@@ -13,7 +13,11 @@ use std::alloc::Global;
 
 impl Desk {
     // The outcomes of fields in their order.
-    pub(crate) fn serve_all(&mut self, heap: Global, items: &[Item]) -> Result<Vec<Outcome>, AllocError>
+    pub(crate) fn serve_all(
+        &mut self,
+        heap: Global,
+        items: &[Item],
+    ) -> Result<Vec<Outcome>, AllocError>
         ensures { λ r. ⌜ made r (λ v. Served (now (self .entry)) (map seen (now (items .entry))) (vec-items v) (now (self .exit))) ⌝ }
     {
         let mut outcomes = Vec::new(heap);
