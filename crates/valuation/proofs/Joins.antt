@@ -96,14 +96,12 @@ both-tests false true z = refl
 both-tests false false z = refl
 
 module _ {L I : Type 0} (code : L → ℕ) (planned : L → ℤ) (key currency : I → ℕ) (v : I → ℤ → ℤ) (c : ℕ) (ls : List L) (xs : List I) (a : Apart code ls) (b : Apart key xs) where
-  found : I → ℤ
-  unfolding found
+  abbrev found : I → ℤ
   found i = cond (eqb c (currency i)) (v i (of planned (lookup code ls (key i)))) (pos 0)
 
   pub lines-join :
       total (λ l. of (λ i. cond (eqb c (currency i)) (v i (planned l)) (pos 0)) (lookup key xs (code l))) ls
       ≡ total (λ i. v i (of planned (lookup code ls (key i)))) (kept-by (λ i. eqb c (currency i) && any (eqb (key i)) (map code ls)) xs)
-  unfolding found
   lines-join =
       sum-same-all
       (λ l. of (λ i. cond (eqb c (currency i)) (v i (planned l)) (pos 0)) (lookup key xs (code l)))

@@ -1,3 +1,4 @@
+use Prim.Native.Nat.{ℕ, _≤_}
 use mathlib.Core.Path.{sym, subst, _∙_}
 use Rattle.valuation.specs.Raw.{raw-of, lowest, with-nought, Small, reach}
 use Rattle.valuation.proofs.Lowests.{lower-turn, lower-done, lower-small, within-limit}
@@ -14,7 +15,7 @@ loop-i-again g c =
 pub returns : need.returns
 returns g c =
     let ps = g .S·RateSource .pieces (c .args .source .now) (c .args .stake .code) in
-    let few = within-limit ps _ (λ known. g .S·RateSource·met .lawful (c .args .source .now) (c .args .stake .code) known .at-most) (c .loop-i .i) ? in
+    let few = within-limit ps (g .S·RateSource .most) (λ known. g .S·RateSource·met .lawful (c .args .source .now) (c .args .stake .code) known .at-most) (c .loop-i .i) (subst (λ (m : ℕ). m ≤ c .loop-i .i) (c .limit-i-end .ensures) (c .loop-i-test .left)) in
     record {
       is = sym (lower-done (raw-of (c .args .orders .now) (c .args .stake)) ps (c .loop-i .i) (c .loop-i .best) few) ∙ c .loop-i .inv .0;
       small = c .loop-i .inv .1;
