@@ -8,6 +8,7 @@ use Rattle.margin.specs.declared.Instrument.{Instrument}
 use Rattle.margin.specs.declared.Order.{Order}
 use Rattle.margin.specs.declared.Piece.{Piece}
 use Rattle.margin.specs.Numbers.{down, total}
+use Rattle.margin.specs.Cash.{cash-by}
 use Rattle.margin.specs.Sheets.{Sheet}
 use Rattle.margin.specs.Holdings.{Holding, held}
 use Rattle.valuation.specs.declared.line.Line.{Line}
@@ -33,3 +34,7 @@ module _ (f : Figure) (pieces : ℕ → List Piece) (is : List Instrument) (ls :
   -- the same after its shock, in roubles
   abbrev pub roubles-in : Currency → ℤ → ℤ
   roubles-in c z = down (shock-in f pieces (c .code) (equity-in (c .code) z) *ℤ pos (c .fx)) 10000
+
+-- the sum over the currencies, each with the cash at its place
+abbrev pub figure-in : Figure → (ℕ → List Piece) → List Currency → List Instrument → List Line → List Order → List ℤ → ℤ
+figure-in f pieces cs is ls os zs = total (λ c. roubles-in f pieces is ls os c (cash-by cs zs (c .code))) cs

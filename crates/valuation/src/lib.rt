@@ -12,4 +12,6 @@ pub use lines::low;
 pub use lines::shocked;
 pub use lines::worth;
 pub use totals::figures;
+pub use totals::first_ratio;
+pub use totals::value;
 pub use totals::worst_case;

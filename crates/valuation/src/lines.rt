@@ -9,9 +9,11 @@ ghost use Rattle.margin.specs.Sheets.{off-list};
 ghost use Rattle.margin.specs.Holdings as holdings;
 ghost use Rattle.margin.specs.Fillings as fillings;
 ghost use Rattle.valuation.specs.Values.{any-sheet, one-line};
+use crate::line::Line;
 use crate::orders::part_of;
 use crate::pieces::Stake;
 use crate::pieces::least_value;
+use crate::pieces::rounded_down;
 use margin::Instrument;
 use margin::Kind;
 use margin::Order;
@@ -29,27 +31,25 @@ fn is_off_list(kind: Kind) -> bool
     }
 }
 
-fn stake_of(instrument: Instrument, planned: i64) -> Stake
-    requires { ⌜ natAbs planned ≤ 200_000_000_000 ⌝ }
-    ensures is { λ r. ⌜ r ≡ record { code = instrument .code; price = instrument .price; amount = pos (instrument .price) *ℤ planned } ⌝ }
+fn stake_of(instrument: Instrument, line: Line) -> Stake
+    ensures is { λ r. ⌜ r ≡ record { code = instrument .code; price = instrument .price; amount = pos (instrument .price) *ℤ line .planned } ⌝ }
     ensures small { λ r. ⌜ natAbs (r .amount) ≤ 10 ^ 21 ⌝ }
 {
     Stake {
         code: instrument.code,
         price: instrument.price,
-        amount: i128::from(instrument.price) * i128::from(planned),
+        amount: i128::from(instrument.price) * i128::from(line.planned),
     }
 }
 
 // The worth of a line: the least over its pieces.
-pub fn worth<S: RateSource>(source: &S, instrument: Instrument, planned: i64) -> i128
-    requires { ⌜ natAbs planned ≤ 200_000_000_000 ⌝ }
-    ensures is { λ r. ⌜ r ≡ holdings.worth (holdings.pieces-of (any-sheet (pieces (now (source .entry)))) instrument) (instrument .price) planned ⌝ }
+pub fn worth<S: RateSource>(source: &S, instrument: Instrument, line: Line) -> i128
+    ensures is { λ r. ⌜ r ≡ holdings.worth (holdings.pieces-of (any-sheet (pieces (now (source .entry)))) instrument) (instrument .price) (line .planned) ⌝ }
     ensures small { λ r. ⌜ natAbs r ≤ 10 ^ 24 ⌝ }
 {
     least_value(
         source,
-        stake_of(instrument, planned),
+        stake_of(instrument, line),
         is_off_list(instrument.kind),
         &[],
     )
@@ -59,17 +59,16 @@ pub fn worth<S: RateSource>(source: &S, instrument: Instrument, planned: i64) ->
 pub fn low<S: RateSource>(
     source: &S,
     instrument: Instrument,
-    planned: i64,
+    line: Line,
     orders: &[Order],
 ) -> i128
-    requires few { ⌜ length (now orders) ≤ 8192 ⌝ }
-    requires planned { ⌜ natAbs planned ≤ 200_000_000_000 ⌝ }
-    ensures is { λ r. ⌜ r ≡ fillings.low (any-sheet (pieces (now (source .entry)))) (one-line planned (now (orders .entry))) instrument ⌝ }
+    requires { ⌜ length (now orders) ≤ 8192 ⌝ }
+    ensures is { λ r. ⌜ r ≡ fillings.low (any-sheet (pieces (now (source .entry)))) (one-line (line .planned) (now (orders .entry))) instrument ⌝ }
     ensures small { λ r. ⌜ natAbs r ≤ 10 ^ 24 ⌝ }
 {
     least_value(
         source,
-        stake_of(instrument, planned),
+        stake_of(instrument, line),
         is_off_list(instrument.kind),
         part_of(orders, instrument.code),
     )
@@ -106,12 +105,11 @@ fn counted(kind: Kind, planned: i64) -> i64
 }
 
 // The counted quantity at the sheet's price.
-pub(crate) fn net(instrument: Instrument, planned: i64) -> i128
-    requires { ⌜ natAbs planned ≤ 200_000_000_000 ⌝ }
-    ensures is { λ r. ⌜ r ≡ cond (off-list (instrument .kind) && below (pos 0) planned) (pos 0) planned *ℤ pos (instrument .price) ⌝ }
+pub(crate) fn net(instrument: Instrument, line: Line) -> i128
+    ensures is { λ r. ⌜ r ≡ cond (off-list (instrument .kind) && below (pos 0) (line .planned)) (pos 0) (line .planned) *ℤ pos (instrument .price) ⌝ }
     ensures small { λ r. ⌜ natAbs r ≤ 10 ^ 24 ⌝ }
 {
-    i128::from(counted(instrument.kind, planned)) * i128::from(instrument.price)
+    i128::from(counted(instrument.kind, line.planned)) * i128::from(instrument.price)
 }
 
 // An amount in roubles, by an exchange rate in ten-thousandths of a rouble, rounded down.
@@ -120,5 +118,5 @@ pub(crate) fn in_roubles(amount: i128, fx: u32) -> i128
     ensures is { λ r. ⌜ r ≡ down (amount *ℤ pos fx) 10000 ⌝ }
     ensures small { λ r. ⌜ natAbs r ≤ 2 * 10 ^ 34 ⌝ }
 {
-    (amount * i128::from(fx)).div_euclid(10_000)
+    rounded_down(amount * i128::from(fx))
 }

@@ -1,6 +1,7 @@
 // The orders of a line, and what they can lose.
 ghost use mathlib.Core.Path.{_≡_};
-ghost use Prim.Native.Nat.{_^_, _≤_};
+ghost use mathlib.Core.Bool.{cond};
+ghost use Prim.Native.Nat.{_+_, _^_, _≤_};
 ghost use lib.ListN.{length};
 ghost use Rattle.std.specs.shelf.Lists.{kept-by};
 ghost use Rattle.margin.specs.Orders.{on, counted-price};
@@ -75,6 +76,20 @@ fn loss_of(price: u32, weight: u32, order: Order) -> u128
     u128::from(order.left) * u128::from(unit_loss(order.side, worth, money))
 }
 
+// A sum of losses, and what the order adds to it where it is in the code.
+fn with_loss(sum: u128, order: Order, code: u16, price: u32, weight: u32) -> u128
+    requires sum { ⌜ sum ≤ 2 ^ 92 ⌝ }
+    requires weight { ⌜ weight ≤ 20_000 ⌝ }
+    ensures is { λ r. ⌜ r ≡ sum + cond (on code order) (loss price weight order) 0 ⌝ }
+    ensures small { λ r. ⌜ r ≤ sum + 2 ^ 79 ⌝ }
+{
+    if code == order.code {
+        sum + loss_of(price, weight, order)
+    } else {
+        sum
+    }
+}
+
 // What the orders in the code lose together.
 pub(crate) fn losses(orders: &[Order], code: u16, price: u32, weight: u32) -> u128
     requires few { ⌜ length (now orders) ≤ 8192 ⌝ }
@@ -84,9 +99,7 @@ pub(crate) fn losses(orders: &[Order], code: u16, price: u32, weight: u32) -> u1
 {
     let mut sum: u128 = 0;
     for order in orders {
-        if code == order.code {
-            sum += loss_of(price, weight, *order);
-        }
+        sum = with_loss(sum, *order, code, price, weight);
     }
     sum
 }

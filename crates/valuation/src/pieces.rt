@@ -107,11 +107,18 @@ fn least_raw<S: RateSource>(source: &S, stake: Stake, off: bool, orders: &[Order
     best
 }
 
+// Ten-thousandths as whole numbers, rounded down.
+pub(crate) fn rounded_down(z: i128) -> i128
+    ensures { λ r. ⌜ r ≡ down z 10000 ⌝ }
+{
+    z.div_euclid(10_000)
+}
+
 fn floored(best: Option<i128>) -> i128
     ensures { λ r. ⌜ r ≡ floored best ⌝ }
 {
     match best {
-        Some(z) => z.div_euclid(10_000),
+        Some(z) => rounded_down(z),
         None => 0,
     }
 }

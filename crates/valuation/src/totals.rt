@@ -1,5 +1,6 @@
 // The figures of a whole portfolio: its lines walked, each code looked up in the sheet, for each currency alone.
 ghost use mathlib.Core.Path.{_≡_};
+ghost use mathlib.Core.List.{[]};
 ghost use Prim.Native.Nat.{ℕ, _*_, _^_, _≤_};
 ghost use lib.IntN.{natAbs};
 ghost use lib.ListN.{length};
@@ -9,10 +10,10 @@ ghost use Rattle.margin.specs.Sheets.{Apart};
 ghost use Rattle.margin.specs.Cash.{cash-by};
 ghost use Rattle.margin.specs.Figures.{figures-of};
 ghost use Rattle.margin.specs.Fillings.{worst};
-ghost use Rattle.margin.proofs.Places.{by-place};
+ghost use Rattle.margin.specs.Holdings.{value-of, first-ratio};
 ghost use Rattle.valuation.specs.Keys.{line-code};
 ghost use Rattle.valuation.specs.Values.{line-value, shock-in, value-in};
-ghost use Rattle.valuation.specs.Holdings.{sheet-of, holding-of, equity-in, roubles-in};
+ghost use Rattle.valuation.specs.Holdings.{sheet-of, holding-of, equity-in, roubles-in, figure-in};
 use crate::line::Line;
 use crate::lines::in_roubles;
 use crate::lines::low;
@@ -57,8 +58,8 @@ fn line_figure<S: RateSource>(
     ensures small { λ r. ⌜ natAbs r ≤ 10 ^ 24 ⌝ }
 {
     match figure {
-        Figure::Net => net(instrument, line.planned),
-        Figure::Low => low(source, instrument, line.planned, orders),
+        Figure::Net => net(instrument, line),
+        Figure::Low => low(source, instrument, line, orders),
     }
 }
 
@@ -163,9 +164,10 @@ fn figure_of<S: RateSource>(
     requires few { ⌜ length (now orders) ≤ 8192 ⌝ }
     requires lines { ⌜ length (now lines) ≤ 8192 ⌝ }
     requires currencies { ⌜ length (now currencies) ≤ 8 ⌝ }
+    requires currencies_apart { ⌜ Apart (λ c. c .code) (now currencies) ⌝ }
     requires apart { ⌜ Apart line-code (now lines) ⌝ }
     requires instruments { ⌜ Rising instrument-code (now instruments) ⌝ }
-    ensures is { λ r. ⌜ r ≡ by-place (roubles-in figure (pieces (now (source .entry))) (now (instruments .entry)) (now (lines .entry)) (now (orders .entry))) (now (currencies .entry)) (now (cash .entry)) ⌝ }
+    ensures is { λ r. ⌜ r ≡ figure-in figure (pieces (now (source .entry))) (now (currencies .entry)) (now (instruments .entry)) (now (lines .entry)) (now (orders .entry)) (now (cash .entry)) ⌝ }
     ensures small { λ r. ⌜ natAbs r ≤ 2 ^ 120 ⌝ }
 {
     let mut sum: i128 = 0;
@@ -181,6 +183,33 @@ fn figure_of<S: RateSource>(
         );
     }
     sum
+}
+
+// The value of a portfolio, which no order moves.
+pub fn value<S: RateSource>(
+    source: &S,
+    currencies: &[Currency],
+    instruments: &[Instrument],
+    lines: &[Line],
+    cash: &[i64; 8],
+) -> i128
+    requires lines { ⌜ length (now lines) ≤ 8192 ⌝ }
+    requires currencies { ⌜ length (now currencies) ≤ 8 ⌝ }
+    requires currencies_apart { ⌜ Apart (λ c. c .code) (now currencies) ⌝ }
+    requires apart { ⌜ Apart line-code (now lines) ⌝ }
+    requires instruments { ⌜ Rising instrument-code (now instruments) ⌝ }
+    ensures is { λ r. ⌜ r ≡ value-of (sheet-of (pieces (now (source .entry))) (now (currencies .entry)) (now (instruments .entry))) (holding-of (cash-by (now (currencies .entry)) (now (cash .entry))) (now (lines .entry)) []) ⌝ }
+    ensures small { λ r. ⌜ natAbs r ≤ 2 ^ 120 ⌝ }
+{
+    figure_of(
+        Figure::Net,
+        source,
+        currencies,
+        instruments,
+        lines,
+        &[],
+        cash,
+    )
 }
 
 // The worst case of a portfolio: the least first ratio over all fillings of its orders.
@@ -212,7 +241,26 @@ pub fn worst_case<S: RateSource>(
     )
 }
 
-// All figures of a portfolio. The first ratio is the worst case with no order standing.
+// The first ratio of a portfolio: its worst case with no order standing.
+pub fn first_ratio<S: RateSource>(
+    source: &S,
+    currencies: &[Currency],
+    instruments: &[Instrument],
+    lines: &[Line],
+    cash: &[i64; 8],
+) -> i128
+    requires lines { ⌜ length (now lines) ≤ 8192 ⌝ }
+    requires currencies { ⌜ length (now currencies) ≤ 8 ⌝ }
+    requires currencies_apart { ⌜ Apart (λ c. c .code) (now currencies) ⌝ }
+    requires apart { ⌜ Apart line-code (now lines) ⌝ }
+    requires instruments { ⌜ Rising instrument-code (now instruments) ⌝ }
+    ensures is { λ r. ⌜ r ≡ first-ratio (sheet-of (pieces (now (source .entry))) (now (currencies .entry)) (now (instruments .entry))) (holding-of (cash-by (now (currencies .entry)) (now (cash .entry))) (now (lines .entry)) []) ⌝ }
+    ensures small { λ r. ⌜ natAbs r ≤ 2 ^ 120 ⌝ }
+{
+    worst_case(source, currencies, instruments, lines, &[], cash)
+}
+
+// All figures of a portfolio.
 pub fn figures<S: RateSource>(
     source: &S,
     currencies: &[Currency],
@@ -229,16 +277,8 @@ pub fn figures<S: RateSource>(
     requires instruments { ⌜ Rising instrument-code (now instruments) ⌝ }
     ensures { λ r. ⌜ r ≡ figures-of (sheet-of (pieces (now (source .entry))) (now (currencies .entry)) (now (instruments .entry))) (holding-of (cash-by (now (currencies .entry)) (now (cash .entry))) (now (lines .entry)) (now (orders .entry))) ⌝ }
 {
-    let value = figure_of(
-        Figure::Net,
-        source,
-        currencies,
-        instruments,
-        lines,
-        &[],
-        cash,
-    );
-    let first = worst_case(source, currencies, instruments, lines, &[], cash);
+    let whole = value(source, currencies, instruments, lines, cash);
+    let first = first_ratio(source, currencies, instruments, lines, cash);
     let worst = worst_case(source, currencies, instruments, lines, orders, cash);
-    figures_from(value, first, worst)
+    figures_from(whole, first, worst)
 }

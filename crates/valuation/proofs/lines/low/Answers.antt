@@ -1,11 +1,10 @@
-use mathlib.Core.Path.{_≡_, sym, ap, subst, _∙_}
-use mathlib.Core.List.{List, []}
+use mathlib.Core.Path.{refl, sym, ap, subst, _∙_}
 use mathlib.Core.Bool.{Bool}
 use Prim.Native.Nat.{_≤_, _^_}
 use native.Mathlib.Omega.{arith}
 use lib.IntN.{pos, natAbs, _*ℤ_}
-use mir.Syntax.{w64, w128}
-use mir.Val.{SFits, toZ, ofZ}
+use mir.Syntax.{w128}
+use mir.Val.{SFits}
 use borrow.Author.Needs.{needs}
 use Rattle.std.proofs.shelf.Signed.{toZ-ofZ}
 use Rattle.margin.specs.Numbers.{down, least}
@@ -22,7 +21,6 @@ returns g c =
     let part = c .part-of .result .now in
     let f : SFits w128 (c .least-value .result) = search needs in
     let back = toZ-ofZ w128 (c .least-value .result) f in
-    let q = toZ-ofZ w64 (c .args .planned) (c .fits .planned) in
     let small : natAbs (c .least-value .result) ≤ 10 ^ 24 = omega arith in
     record {
       small = subst (λ z. natAbs z ≤ 10 ^ 24) (sym back) small;
@@ -30,5 +28,5 @@ returns g c =
           ∙ c .least-value .ensures .is
           ∙ ap (λ (b : Bool). least (λ p. down (raw-of part (c .stake-of .result) p) 10000) (with-nought b (pieces (c .stake-of .result .code)))) (c .is-off-list .ensures)
           ∙ ap (λ (l : Stake). least (λ p. down (raw-of part l p) 10000) (with-nought (off-list (i .kind)) (pieces (l .code)))) (c .stake-of .ensures .is)
-          ∙ low-is pieces i part (c .args .orders .now) (c .args .planned) (pos (i .price) *ℤ toZ w64 (ofZ w64 (c .args .planned))) (ap (λ z. pos (i .price) *ℤ z) q) (c .part-of .ensures .same);
+          ∙ low-is pieces i part (c .args .orders .now) (c .args .line .planned) (pos (i .price) *ℤ c .args .line .planned) refl (c .part-of .ensures .same);
     }

@@ -1,11 +1,11 @@
-use mathlib.Core.Path.{_≡_, sym, ap, subst, _∙_}
-use mathlib.Core.List.{List, []}
+use mathlib.Core.Path.{refl, sym, ap, subst, _∙_}
+use mathlib.Core.List.{[]}
 use mathlib.Core.Bool.{Bool}
 use Prim.Native.Nat.{_≤_, _^_}
 use native.Mathlib.Omega.{arith}
 use lib.IntN.{pos, natAbs, _*ℤ_}
-use mir.Syntax.{w64, w128}
-use mir.Val.{SFits, toZ, ofZ}
+use mir.Syntax.{w128}
+use mir.Val.{SFits}
 use borrow.Author.Needs.{needs}
 use Rattle.std.proofs.shelf.Signed.{toZ-ofZ}
 use Rattle.margin.specs.Numbers.{down, least}
@@ -21,7 +21,6 @@ returns g c =
     let i = c .args .instrument in
     let f : SFits w128 (c .least-value .result) = search needs in
     let back = toZ-ofZ w128 (c .least-value .result) f in
-    let q = toZ-ofZ w64 (c .args .planned) (c .fits .planned) in
     let small : natAbs (c .least-value .result) ≤ 10 ^ 24 = omega arith in
     record {
       small = subst (λ z. natAbs z ≤ 10 ^ 24) (sym back) small;
@@ -29,5 +28,5 @@ returns g c =
           ∙ c .least-value .ensures .is
           ∙ ap (λ (b : Bool). least (λ p. down (raw-of [] (c .stake-of .result) p) 10000) (with-nought b (pieces (c .stake-of .result .code)))) (c .is-off-list .ensures)
           ∙ ap (λ (l : Stake). least (λ p. down (raw-of [] l p) 10000) (with-nought (off-list (i .kind)) (pieces (l .code)))) (c .stake-of .ensures .is)
-          ∙ worth-is (i .price) (i .code) (c .args .planned) (pos (i .price) *ℤ toZ w64 (ofZ w64 (c .args .planned))) (with-nought (off-list (i .kind)) (pieces (i .code))) (ap (λ z. pos (i .price) *ℤ z) q);
+          ∙ worth-is (i .price) (i .code) (c .args .line .planned) (pos (i .price) *ℤ c .args .line .planned) (with-nought (off-list (i .kind)) (pieces (i .code))) refl;
     }

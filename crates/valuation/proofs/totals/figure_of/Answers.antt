@@ -11,7 +11,7 @@ use mir.Val.{SFits}
 use Rattle.std.proofs.shelf.Lists.{take-all}
 use Rattle.std.proofs.shelf.Signed.{toZ-ofZ}
 use Rattle.margin.specs.declared.Currency.{Currency}
-use Rattle.margin.proofs.Places.{by-place, by-place-more}
+use Rattle.margin.proofs.Places.{by-place, by-place-more, by-code}
 use Rattle.valuation.specs.Holdings.{roubles-in}
 use Rattle.valuation.proofs.totals.figure_of.Needs as need
 
@@ -28,4 +28,7 @@ pub returns : need.returns
 returns g c =
     let f = roubles-in (c .args .figure) (g .S·RateSource .pieces (c .args .source .now)) (c .args .instruments .now) (c .args .lines .now) (c .args .orders .now) in
     let all : take (c .loop-i .i) (c .args .currencies .now) ≡ c .args .currencies .now = take-all _ _ (omega arith) in
-    record { is = c .loop-i .inv .0 ∙ ap (λ (cs : List Currency). by-place f cs (c .args .cash .now)) all; small = omega (arith, ints) }
+    record {
+      is = c .loop-i .inv .0 ∙ ap (λ (cs : List Currency). by-place f cs (c .args .cash .now)) all ∙ by-code f (c .args .currencies .now) (c .args .cash .now) (c .pre .currencies-apart) (omega arith);
+      small = omega (arith, ints);
+    }
