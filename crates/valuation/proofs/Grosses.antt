@@ -12,6 +12,7 @@ use Rattle.std.specs.shelf.Lists.{kept-by}
 use Rattle.std.specs.declared.option.Option.{Option}
 use Rattle.std.specs.declared.option.Option.the-variants.{Some, None}
 use Rattle.std.proofs.shelf.Elements.{kept-by-more}
+use Rattle.std.proofs.shelf.Lists.{append-nil}
 use Rattle.keyed.specs.Rows.{Rising, lookup}
 use Rattle.margin.specs.declared.Instrument.{Instrument}
 use Rattle.margin.specs.declared.Order.{Order}
@@ -21,7 +22,6 @@ use Rattle.margin.specs.Orders.{on}
 use Rattle.margin.specs.Sheets.{Apart}
 use Rattle.margin.specs.Holdings.{held}
 use Rattle.margin.specs.Limits.{highest, gross}
-use Rattle.margin.proofs.Lists.{by-test}
 use Rattle.margin.proofs.Sums.{sum-same}
 use Rattle.valuation.specs.declared.line.Line.{Line}
 use Rattle.valuation.specs.Keys.{line-code}
@@ -36,20 +36,13 @@ highest-last : (p : ℕ) (os : List Order) (o : Order) → highest p (os ++ o �
 highest-last p [] o = refl
 highest-last p (x ∷ os) o = omega (arith, highest-last p os o)
 
-append-none : (p : ℕ) (os : List Order) → highest p (os ++ []) ≡ highest p os
-append-none p [] = refl
-append-none p (x ∷ os) = ap (max (x .price)) (append-none p os)
+highest-one : (b : Bool) (p : ℕ) (os : List Order) (o : Order) → highest p (os ++ cond b (o ∷ []) []) ≡ max (cond b (o .price) 0) (highest p os)
+highest-one true p os o = highest-last p os o
+highest-one false p os o = ap (highest p) (append-nil os) ∙ omega arith
 
-module _ (code price : ℕ) (os : List Order) (i : ℕ) (d : Order) (h : i < length os) where
-  pub highest-more : on code (getD os i d) ≡ true → highest price (kept-by (on code) (take (i + 1) os)) ≡ max (getD os i d .price) (highest price (kept-by (on code) (take i os)))
-  highest-more e =
-      ap (highest price) (kept-by-more (on code) os i d h ∙ ap (λ b. kept-by (on code) (take i os) ++ cond b (getD os i d ∷ []) []) e)
-      ∙ highest-last price (kept-by (on code) (take i os)) (getD os i d)
-
-  pub highest-same : on code (getD os i d) ≡ false → highest price (kept-by (on code) (take (i + 1) os)) ≡ highest price (kept-by (on code) (take i os))
-  highest-same e =
-      ap (highest price) (kept-by-more (on code) os i d h ∙ ap (λ b. kept-by (on code) (take i os) ++ cond b (getD os i d ∷ []) []) e)
-      ∙ append-none price (kept-by (on code) (take i os))
+pub highest-more : (code price : ℕ) (os : List Order) (i : ℕ) (d : Order) → i < length os →
+    highest price (kept-by (on code) (take (i + 1) os)) ≡ max (cond (on code (getD os i d)) (getD os i d .price) 0) (highest price (kept-by (on code) (take i os)))
+highest-more code price os i d h = ap (highest price) (kept-by-more (on code) os i d h) ∙ highest-one (on code (getD os i d)) price (kept-by (on code) (take i os)) (getD os i d)
 
 -- the part of the orders has all the line's own
 pub line-gross : (i : Instrument) (q : ℤ) (part os : List Order) (units high : ℕ) → kept-by (on (i .code)) part ≡ kept-by (on (i .code)) os →

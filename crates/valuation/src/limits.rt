@@ -2,7 +2,7 @@
 ghost use mathlib.Core.Path.{_≡_};
 ghost use mathlib.Core.Bool.{cond};
 ghost use mathlib.Core.List.{[]};
-ghost use Prim.Native.Nat.{ℕ, _^_, _≤_};
+ghost use Prim.Native.Nat.{ℕ, _^_, _≤_, max};
 ghost use lib.IntN.{natAbs};
 ghost use lib.ListN.{length};
 ghost use Rattle.std.specs.shelf.Lists.{kept-by};
@@ -13,7 +13,6 @@ ghost use Rattle.margin.specs.Orders.{on};
 ghost use Rattle.margin.specs.Sheets.{Apart};
 ghost use Rattle.margin.specs.Limits as limits;
 ghost use Rattle.valuation.specs.Keys.{line-code};
-ghost use Rattle.valuation.specs.Values.{any-sheet, one-line};
 ghost use Rattle.valuation.specs.Holdings.{sheet-of, holding-of};
 ghost use Rattle.valuation.specs.Grosses.{gross-of, gross-in};
 use crate::line::Line;
@@ -21,6 +20,13 @@ use crate::orders::part_of;
 use crate::totals::instrument_at;
 use margin::Instrument;
 use margin::Order;
+
+// What is open of an order, where it is in the code.
+fn open_in(order: Order, code: u16) -> u32
+    ensures { λ r. ⌜ r ≡ cond (on code order) (order .left) 0 ⌝ }
+{
+    if code == order.code { order.left } else { 0 }
+}
 
 // The open quantities of the orders in the code.
 fn open_units(orders: &[Order], code: u16) -> u128
@@ -30,11 +36,20 @@ fn open_units(orders: &[Order], code: u16) -> u128
 {
     let mut sum: u128 = 0;
     for order in orders {
-        if code == order.code {
-            sum += u128::from(order.left);
-        }
+        sum += u128::from(open_in(*order, code));
     }
     sum
+}
+
+// The higher of a price and an order's own, where it is in the code.
+fn higher(best: u32, order: Order, code: u16) -> u32
+    ensures { λ r. ⌜ r ≡ max (cond (on code order) (order .price) 0) best ⌝ }
+{
+    if code == order.code {
+        order.price.max(best)
+    } else {
+        best
+    }
 }
 
 // The greatest of a price and of the own prices of the orders in the code.
@@ -43,9 +58,7 @@ fn highest(orders: &[Order], code: u16, price: u32) -> u32
 {
     let mut best = price;
     for order in orders {
-        if code == order.code {
-            best = order.price.max(best);
-        }
+        best = higher(best, *order, code);
     }
     best
 }

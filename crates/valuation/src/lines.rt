@@ -56,12 +56,7 @@ pub fn worth<S: RateSource>(source: &S, instrument: Instrument, line: Line) -> i
 }
 
 // The least that a line can come to, with the cash of its orders. It walks the orders once to find the line's own.
-pub fn low<S: RateSource>(
-    source: &S,
-    instrument: Instrument,
-    line: Line,
-    orders: &[Order],
-) -> i128
+pub fn low<S: RateSource>(source: &S, instrument: Instrument, line: Line, orders: &[Order]) -> i128
     requires { ⌜ length (now orders) ≤ 8192 ⌝ }
     ensures is { λ r. ⌜ r ≡ fillings.low (any-sheet (pieces (now (source .entry)))) (one-line (line .planned) (now (orders .entry))) instrument ⌝ }
     ensures small { λ r. ⌜ natAbs r ≤ 10 ^ 24 ⌝ }

@@ -7,13 +7,12 @@ use Rattle.margin.specs.declared.Order.{Order}
 use Rattle.margin.specs.Orders.{on}
 use Rattle.valuation.proofs.Steps.{count-more}
 use Rattle.valuation.proofs.limits.open_units.Needs as need
-use Rattle.valuation.proofs.limits.open_units.Needs.{then-code-order, else-code-order}
 
 pub loop-order-again : need.loop-order-again
 loop-order-again c =
     let d : Order = record { number = 0; portfolio = 0; code = 0; side = Buy; left = 0; price = 0 } in
     let e = count-more (λ o. cond (on (c .args .code) o) (o .left) 0) (c .args .orders .now) (c .loop-order .order-index) d (c .loop-order-test .taken) in
-    elim (c .if-code-order .came) [ then-code-order w ↦ grind arith | else-code-order w ↦ grind arith ]
+    (omega (arith, e), omega arith)
 
 pub returns : need.returns
 returns c = search (needs, take-all)

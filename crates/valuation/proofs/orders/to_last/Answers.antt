@@ -23,10 +23,9 @@ pub loop-end-again : need.loop-end-again
 loop-end-again c =
     let os = c .args .orders .now in
     let e = c .loop-end .end in
-    let one : c .loop-end .end - 1 + 1 ≡ c .loop-end .end = omega arith in
-    (
+    let one : c .loop-end .end - 1 + 1 ≡ c .loop-end .end = omega arith in (
       sym (kept-before (on (c .args .code)) os (e - 1) none (omega arith) (ne-eqb _ _ (c .if-code-orders .left)))
-      ∙ ap (λ (k : ℕ). kept-by (on (c .args .code)) (take k os)) one
-      ∙ c .loop-end .inv .0,
+          ∙ ap (λ (k : ℕ). kept-by (on (c .args .code)) (take k os)) one
+          ∙ c .loop-end .inv .0,
       omega arith,
     )
