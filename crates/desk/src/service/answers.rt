@@ -1,12 +1,14 @@
 // What the desk answers to each field. A call before a sheet is in force meets 27.
 ghost use mathlib.Core.Path.{_≡_};
 ghost use Rattle.std.specs.Vec.{made};
+ghost use Rattle.std.specs.declared.option.Option.the-variants.{Some};
 ghost use Rattle.std.specs.declared.result.Result.the-variants.{Ok};
+ghost use Rattle.rules.specs.Histories.{opened-with};
 ghost use Rattle.book.specs.Requests.{enter-currency, put-in-force, open-portfolio, pay-in, pay-out, figures, asked};
 ghost use Rattle.book.specs.Book.{seen};
 ghost use Rattle.sheet.specs.Drafts.{As-closed};
 ghost use Rattle.desk.specs.declared.replies.Reply.the-variants.{Done};
-ghost use Rattle.desk.specs.Service.{answer, Opened, Leaves, Serves, Begun};
+ghost use Rattle.desk.specs.Service.{answer, Opened, Leaves, Carries, Lawful, room, sheet-of, Serves, Begun};
 use super::Desk;
 use crate::drafting::Drafting;
 use crate::replies::Outcome;
@@ -56,6 +58,7 @@ impl Desk {
     fn open_portfolio(&mut self, portfolio: u16) -> Result<Reply, RegisterFault>
         ensures is { λ r. ⌜ r ≡ answer (now (self .entry)) (open-portfolio portfolio) ⌝ }
         ensures leaves { λ _. ⌜ Leaves (now (self .entry)) (open-portfolio portfolio) (now (self .exit)) ⌝ }
+        ensures carries { λ _. ⌜ Carries (now (self .entry)) (open-portfolio portfolio) (now (self .exit)) ⌝ }
     {
         let Some(register) = &mut self.register else {
             return Err(NOT_IN_FORCE);
@@ -67,6 +70,7 @@ impl Desk {
     fn pay_in(&mut self, portfolio: u16, currency: u16, amount: u64) -> Result<Reply, RegisterFault>
         ensures is { λ r. ⌜ r ≡ answer (now (self .entry)) (pay-in portfolio currency amount) ⌝ }
         ensures leaves { λ _. ⌜ Leaves (now (self .entry)) (pay-in portfolio currency amount) (now (self .exit)) ⌝ }
+        ensures carries { λ _. ⌜ Carries (now (self .entry)) (pay-in portfolio currency amount) (now (self .exit)) ⌝ }
     {
         let Some(register) = &mut self.register else {
             return Err(NOT_IN_FORCE);
@@ -83,6 +87,7 @@ impl Desk {
     ) -> Result<Reply, RegisterFault>
         ensures is { λ r. ⌜ r ≡ answer (now (self .entry)) (pay-out portfolio currency amount) ⌝ }
         ensures leaves { λ _. ⌜ Leaves (now (self .entry)) (pay-out portfolio currency amount) (now (self .exit)) ⌝ }
+        ensures carries { λ _. ⌜ Carries (now (self .entry)) (pay-out portfolio currency amount) (now (self .exit)) ⌝ }
     {
         let Some(register) = &mut self.register else {
             return Err(NOT_IN_FORCE);
@@ -92,7 +97,8 @@ impl Desk {
     }
 
     fn figures(&self, portfolio: u16) -> Result<Reply, RegisterFault>
-        ensures { λ r. ⌜ r ≡ answer (now (self .entry)) (figures portfolio) ⌝ }
+        ensures is { λ r. ⌜ r ≡ answer (now (self .entry)) (figures portfolio) ⌝ }
+        ensures carries { λ _. ⌜ Carries (now (self .entry)) (figures portfolio) (now (self .entry)) ⌝ }
     {
         let Some(register) = &self.register else {
             return Err(NOT_IN_FORCE);
@@ -108,7 +114,7 @@ impl Desk {
         closed: ClosedSheet,
     ) -> Result<Result<Reply, RegisterFault>, AllocError>
         requires { ⌜ As-closed closed (now self .drafting .table) ⌝ }
-        ensures { λ r. ⌜ made r (λ a. (a ≡ Ok Done) × Opened (now (self .entry)) closed (now (self .exit))) ⌝ }
+        ensures { λ r. ⌜ made r (λ a. (a ≡ Ok Done) × Opened (now (self .entry)) closed (now (self .exit)) × Lawful (now (self .exit) .register) (Some (opened-with (sheet-of closed (now (self .entry) .drafting .table)) room))) ⌝ }
     {
         match Register::begin(heap, closed, &self.drafting.table, PLACES) {
             Ok(register) => {
@@ -125,7 +131,7 @@ impl Desk {
     // Closes the draft, and opens the register by the closed sheet or puts it in force. What is refused is discarded, and an
     // empty draft begins.
     fn put_in_force(&mut self, heap: Global) -> Result<Result<Reply, RegisterFault>, AllocError>
-        ensures { λ r. ⌜ made r (λ a. (a ≡ answer (now (self .entry)) put-in-force) × Leaves (now (self .entry)) put-in-force (now (self .exit))) ⌝ }
+        ensures { λ r. ⌜ made r (λ a. (a ≡ answer (now (self .entry)) put-in-force) × Leaves (now (self .entry)) put-in-force (now (self .exit)) × Carries (now (self .entry)) put-in-force (now (self .exit))) ⌝ }
     {
         let draft = self.drafting.take();
         let closed = match draft.close(&self.drafting.table) {
@@ -150,6 +156,7 @@ impl Desk {
     fn enter_currency(&mut self, code: u16, fx: u32) -> Result<Reply, RegisterFault>
         ensures is { λ r. ⌜ r ≡ answer (now (self .entry)) (enter-currency code fx) ⌝ }
         ensures leaves { λ _. ⌜ Leaves (now (self .entry)) (enter-currency code fx) (now (self .exit)) ⌝ }
+        ensures carries { λ _. ⌜ Carries (now (self .entry)) (enter-currency code fx) (now (self .exit)) ⌝ }
     {
         self.drafting.enter_currency(code, fx)?;
         Ok(Reply::Done)
@@ -157,7 +164,7 @@ impl Desk {
 
     // What a field of its kind asks, asked.
     fn ask(&mut self, heap: Global, kind: &Kind) -> Result<Result<Reply, RegisterFault>, AllocError>
-        ensures { λ r. ⌜ made r (λ a. (a ≡ answer (now (self .entry)) (asked (now (kind .entry)))) × Leaves (now (self .entry)) (asked (now (kind .entry))) (now (self .exit))) ⌝ }
+        ensures { λ r. ⌜ made r (λ a. (a ≡ answer (now (self .entry)) (asked (now (kind .entry)))) × Leaves (now (self .entry)) (asked (now (kind .entry))) (now (self .exit)) × Carries (now (self .entry)) (asked (now (kind .entry))) (now (self .exit))) ⌝ }
     {
         match kind {
             Kind::Currency { code, fx } => Ok(self.enter_currency(two(code), four(fx))),

@@ -3,6 +3,8 @@ ghost use mathlib.Core.List.{map};
 ghost use Rattle.std.specs.Of.Vec.{vec-items};
 ghost use Rattle.std.specs.Vec.{made};
 ghost use Rattle.book.specs.Book.{fields, seen};
+ghost use Rattle.std.specs.declared.option.Option.{Option};
+ghost use Rattle.rules.specs.Histories.{History};
 ghost use Rattle.desk.specs.Service.{Served, Runs};
 use super::Desk;
 use crate::replies::Outcome;
@@ -18,7 +20,7 @@ impl Desk {
         heap: Global,
         items: &[Item],
     ) -> Result<Vec<Outcome>, AllocError>
-        ensures { λ r. ⌜ made r (λ v. Served (now (self .entry)) (map seen (now (items .entry))) (vec-items v) (now (self .exit))) ⌝ }
+        ensures { λ r. ⌜ made r (λ v. (u : Option History) → (w : Option History) × Served (now (self .entry)) u (map seen (now (items .entry))) (vec-items v) (now (self .exit)) w) ⌝ }
     {
         let mut outcomes = Vec::new(heap);
         for item in items {
