@@ -1,13 +1,9 @@
 -- The pieces of a stepped row keep the rules.
-use mathlib.Core.Path.{_≡_, refl}
-use mathlib.Core.Bool.{true}
-use Prim.Native.Nat.{ℕ, _-_, _^_, _<_}
+use Prim.Native.Nat.{ℕ, _-_, _<_}
 use native.Mathlib.Omega.{arith}
-use lib.Dec.{leb}
 use lib.ListN.{length}
 use Rattle.std.specs.declared.option.Option.{Option}
 use Rattle.std.specs.declared.option.Option.the-variants.{Some, None}
-use Rattle.std.proofs.shelf.Tests.{le-leb, or-left, or-right}
 use Rattle.keyed.specs.Tables.{holds}
 use Rattle.rates.specs.Pieces.{Lawful}
 use Rattle.sources.specs.declared.rows.SteppedRow.{SteppedRow}

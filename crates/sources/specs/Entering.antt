@@ -1,13 +1,16 @@
 -- What a source answers to a rate, and what it gives afterwards.
 use mathlib.Core.Path.{_≡_}
-use mathlib.Core.Bool.{Bool, cond}
+use mathlib.Core.Bool.{Bool, true, false, cond}
 use mathlib.Core.List.{List, [], _∷_}
 use Prim.Native.Nat.{ℕ, _+_}
 use lib.Dec.{eqb, leb, ltb}
 use lib.ListN.{length}
 use Rattle.std.specs.declared.result.Result.{Result}
 use Rattle.std.specs.declared.result.Result.the-variants.{Ok, Err}
+use Rattle.book.specs.declared.faults.FieldCause.the-variants.{Range}
+use Rattle.book.specs.declared.faults.FieldFault.{FieldFault}
 use Rattle.book.specs.Checks.{check, first-of}
+use Rattle.book.specs.Faults.{fault}
 use Rattle.keyed.specs.declared.table.Refusal.{Refusal}
 use Rattle.keyed.specs.declared.table.Refusal.the-variants.{Taken, Full}
 use Rattle.margin.specs.declared.Piece.{Piece}
@@ -27,6 +30,11 @@ enters outside known count =
     ∷ check (ltb 0 (length known)) (refusal Entered)
     ∷ check (leb most-codes count) (refusal Brim)
     ∷ []) tt
+
+-- the row of a rate with its numbers, or that one is outside its range
+abbrev pub Checked : {R : Type 0} → Bool → (R → Type 0) → Result R FieldFault → Type 0
+Checked outside P (Ok x) = (outside ≡ false) × P x
+Checked outside P (Err f) = (outside ≡ true) × (f ≡ fault Range 0)
 
 -- a table's refusal of the row, as a source's
 abbrev pub answered : Result (Unit {0}) Refusal → Result (Unit {0}) SheetFault

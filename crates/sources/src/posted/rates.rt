@@ -1,16 +1,17 @@
 ghost use mathlib.Core.Path.{_≡_};
-ghost use mathlib.Core.List.{[]};
-ghost use Prim.Native.Nat.{ℕ};
+ghost use mathlib.Core.Bool.{_||_};
 ghost use Rattle.std.specs.Results.{Cases};
 ghost use Rattle.std.specs.Vec.{made};
+ghost use Rattle.book.specs.Ranges.{no-rated-code, no-risk-rate};
 ghost use Rattle.keyed.specs.Tables.{Fresh};
 ghost use Rattle.sources.specs.Keys.{posted-code};
-ghost use Rattle.sources.specs.Entering.{Enters, Empty};
+ghost use Rattle.sources.specs.Entering.{Checked, Enters, Empty};
 ghost use Rattle.sources.specs.Posted.{posted, posted-count, posted-pieces, enters-posted};
 use super::PostedRates;
 use crate::refusals::answered;
 use crate::rows::PostedRow;
 use crate::rows::keys::PostedRowKeyed;
+use book::FieldFault;
 use book::check_posted;
 use keyed::Table;
 use margin::Piece;
@@ -56,6 +57,14 @@ pub impl RateSource for PostedRates as PostedSource {
     }
 }
 
+// The row of a rate whose numbers are in their ranges.
+fn checked(code: u16, plus: u16, minus: u16) -> Result<PostedRow, FieldFault>
+    ensures { λ r. ⌜ Checked (no-rated-code code || no-risk-rate plus || no-risk-rate minus) (λ x. (x .code ≡ code) × (x .plus ≡ plus) × (x .minus ≡ minus)) r ⌝ }
+{
+    check_posted(code, plus, minus, 0)?;
+    Ok(PostedRow { code, plus, minus })
+}
+
 // The memory of an empty table.
 fn places(heap: Global) -> Result<Table<PostedRow>, AllocError>
     ensures { λ r. ⌜ made r (λ t. Fresh posted-code t 263) ⌝ }
@@ -90,7 +99,7 @@ impl PostedRates {
         ensures answer { λ r. ⌜ r ≡ enters-posted (now (self .entry)) code plus minus ⌝ }
         ensures tables { λ r. ⌜ Cases r (λ _. Enters (posted (now (self .entry))) (posted-count (now (self .entry))) code (posted-pieces plus minus) (posted (now (self .exit))) (posted-count (now (self .exit)))) (λ _. now (self .exit) .rows ≡ now (self .entry) .rows) ⌝ }
     {
-        check_posted(code, plus, minus, 0)?;
-        answered(self.rows.insert(PostedRow { code, plus, minus }))
+        let row = checked(code, plus, minus)?;
+        answered(self.rows.insert(row))
     }
 }

@@ -1,16 +1,18 @@
 ghost use mathlib.Core.Path.{_≡_};
-ghost use mathlib.Core.List.{[]};
-ghost use Prim.Native.Nat.{ℕ, _+_, _-_, _≤_};
+ghost use mathlib.Core.Bool.{_||_};
+ghost use Prim.Native.Nat.{_≤_};
 ghost use Rattle.std.specs.Results.{Cases};
 ghost use Rattle.std.specs.Vec.{made};
+ghost use Rattle.book.specs.Ranges.{no-rated-code, no-steps, no-limits};
 ghost use Rattle.keyed.specs.Tables.{Fresh};
 ghost use Rattle.sources.specs.Keys.{stepped-code};
-ghost use Rattle.sources.specs.Entering.{Enters, Empty};
+ghost use Rattle.sources.specs.Entering.{Checked, Enters, Empty};
 ghost use Rattle.sources.specs.Stepped.{stepped, stepped-count, stepped-pieces, enters-stepped, lighter, heavier, second, third};
 use super::SteppedRates;
 use crate::refusals::answered;
 use crate::rows::SteppedRow;
 use crate::rows::keys::SteppedRowKeyed;
+use book::FieldFault;
 use book::check_stepped;
 use keyed::Table;
 use margin::Piece;
@@ -43,8 +45,7 @@ fn heavier(rate: u16, allowance: u64) -> Piece
 
 // The allowance of the second step.
 fn second(row: SteppedRow) -> u64
-    ensures is { λ r. ⌜ r ≡ second (row .s1) (row .s2) (row .k1) ⌝ }
-    ensures small { λ r. ⌜ r ≤ 42_949_672_950_000 ⌝ }
+    ensures { λ r. ⌜ r ≡ second (row .s1) (row .s2) (row .k1) ⌝ }
 {
     u64::from(row.k1) * u64::from(row.s2 - row.s1)
 }
@@ -86,6 +87,28 @@ pub impl RateSource for SteppedRates as SteppedSource {
             _ => None,
         }
     }
+}
+
+// The row of a rate whose numbers are in their ranges.
+fn checked(
+    code: u16,
+    s1: u16,
+    s2: u16,
+    s3: u16,
+    k1: u32,
+    k2: u32,
+) -> Result<SteppedRow, FieldFault>
+    ensures { λ r. ⌜ Checked (no-rated-code code || no-steps s1 s2 s3 || no-limits k1 k2) (λ x. (x .code ≡ code) × (x .s1 ≡ s1) × (x .s2 ≡ s2) × (x .s3 ≡ s3) × (x .k1 ≡ k1) × (x .k2 ≡ k2)) r ⌝ }
+{
+    check_stepped(code, s1, s2, s3, k1, k2, 0)?;
+    Ok(SteppedRow {
+        code,
+        s1,
+        s2,
+        s3,
+        k1,
+        k2,
+    })
 }
 
 // The memory of an empty table.
@@ -133,16 +156,7 @@ impl SteppedRates {
         ensures answer { λ r. ⌜ r ≡ enters-stepped (now (self .entry)) code s1 s2 s3 k1 k2 ⌝ }
         ensures tables { λ r. ⌜ Cases r (λ _. Enters (stepped (now (self .entry))) (stepped-count (now (self .entry))) code (stepped-pieces s1 s2 s3 k1 k2) (stepped (now (self .exit))) (stepped-count (now (self .exit)))) (λ _. now (self .exit) .rows ≡ now (self .entry) .rows) ⌝ }
     {
-        check_stepped(code, s1, s2, s3, k1, k2, 0)?;
-        answered(
-            self.rows.insert(SteppedRow {
-                code,
-                s1,
-                s2,
-                s3,
-                k1,
-                k2,
-            }),
-        )
+        let row = checked(code, s1, s2, s3, k1, k2)?;
+        answered(self.rows.insert(row))
     }
 }
