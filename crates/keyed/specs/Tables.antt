@@ -60,4 +60,5 @@ module _ {R : Type 0} (key : R → ℕ) where
   pub record Fresh (t : Table R) (n : ℕ) : Type 0 where
     pub sound : Sound t
     pub none : (q : ℕ) → holds t q ≡ None
+    pub empty : length (entries t) ≡ 0
     pub room : room t ≡ n

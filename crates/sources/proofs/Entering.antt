@@ -1,7 +1,7 @@
 -- What a source answers by what its table did with the row, and what it gives then.
 use mathlib.Core.Path.{_≡_, refl, sym, ap, ap₂, subst, _∙_}
 use mathlib.Core.Bool.{Bool, true, false, cond}
-use mathlib.Core.List.{List, [], _∷_}
+use mathlib.Core.List.{List, []}
 use mathlib.Core.Logic.{⊎-elim}
 use Prim.Native.Nat.{ℕ, _<_}
 use native.Mathlib.Omega.{arith}
@@ -19,26 +19,16 @@ use Rattle.book.proofs.Answers.{fails, passes}
 use Rattle.keyed.specs.declared.table.Refusal.{Refusal}
 use Rattle.keyed.specs.declared.table.Refusal.the-variants.{Taken, Full}
 use Rattle.keyed.specs.declared.table.Table.{Table}
-use Rattle.keyed.specs.Rows.{lookup}
-use Rattle.keyed.specs.Tables.{entries, room, holds, Sound, Sets, Inserts, Fresh}
+use Rattle.keyed.specs.Tables.{entries, room, holds, Sound, Sets, Inserts}
 use Rattle.keyed.proofs.Changes.{sized}
 use Rattle.margin.specs.declared.Piece.{Piece}
 use Rattle.sheet.specs.declared.faults.SheetCause.the-variants.{Entered, Full as Brim}
 use Rattle.sheet.specs.declared.faults.SheetFault.{SheetFault}
 use Rattle.sheet.specs.Faults.{out-of-range, refusal}
-use Rattle.sources.specs.Entering.{most-codes, enters, answered, Enters, Empty}
-
-none-found : {R : Type 0} (key : R → ℕ) (xs : List R) → ((q : ℕ) → lookup key xs q ≡ None) → length xs ≡ 0
-none-found key [] h = refl
-none-found key (x ∷ xs) h =
-    let e = sym (cond-true _ _ _ (eq-eqb (key x) (key x) refl)) ∙ h (key x) in
-    let z : _≡_ {A = ℕ} 0 1 = cc in absurd (omega arith)
+use Rattle.sources.specs.Entering.{most-codes, enters, answered, Enters}
 
 -- `give` is what a row gives, none where there is no row
 module _ {R : Type 0} (key : R → ℕ) (give : Option R → List Piece) (none : give None ≡ []) (some : (x : R) → 0 < length (give (Some x))) where
-  pub empty : (t : Table R) (n : ℕ) → Fresh key t n → Empty (λ q. give (holds key t q)) (length (entries t))
-  empty t n f = record { none = λ q. ap give (f .none q) ∙ none; no-codes = none-found key (entries t) (f .none) }
-
   known : (o : Option R) → isSome o ≡ true → ltb 0 (length (give o)) ≡ true
   known None e = let z : _≡_ {A = Bool} false true = e in absurd (let y : _≡_ {A = ℕ} 0 1 = cc in omega arith)
   known (Some x) e = grind (arith, some x)

@@ -9,8 +9,7 @@ use lib.IntN.{ℤ, pos, _+ℤ_, +ℤ-idr, +ℤ-idl}
 use lib.ListN.{length, getD}
 use borrow.Author.Differences.{ints}
 use Rattle.std.specs.shelf.Lists.{All, kept-by}
-use Rattle.std.specs.declared.option.Option.{Option}
-use Rattle.std.specs.declared.option.Option.the-variants.{Some, None}
+use Rattle.std.specs.declared.option.Option.the-variants.{Some}
 use Rattle.std.proofs.shelf.Elements.{all-weaker}
 use Rattle.std.proofs.shelf.Tests.{eq-eqb, ne-eqb, eqb-true, eqb-false}
 use Rattle.keyed.specs.Rows.{Rising, lookup}

@@ -12,11 +12,11 @@ use Rattle.margin.specs.declared.Order.{Order}
 use Rattle.margin.specs.declared.Piece.{Piece}
 use Rattle.margin.specs.Keys.{instrument-code}
 use Rattle.margin.specs.Sheets.{Sheet}
-use Rattle.margin.specs.Holdings.{Holding, counted, shocked}
+use Rattle.margin.specs.Holdings.{Holding, worth, pieces-of, counted, shocked}
 use Rattle.margin.specs.Fillings.{low}
 use Rattle.valuation.specs.declared.line.Line.{Line}
 use Rattle.valuation.specs.declared.totals.Figure.{Figure}
-use Rattle.valuation.specs.declared.totals.Figure.the-variants.{Net, Low}
+use Rattle.valuation.specs.declared.totals.Figure.the-variants.{Net, Worth, Low}
 
 -- a sheet with this source of pieces
 abbrev pub any-sheet : (ℕ → List Piece) → Sheet
@@ -26,13 +26,15 @@ any-sheet pieces = record { currencies = []; instruments = []; pieces = pieces }
 abbrev pub one-line : ℤ → List Order → Holding
 one-line q os = record { cash = λ _. pos 0; planned = λ _. q; lines = []; orders = os }
 
--- what so many units count for: at the sheet's price, or at the least that they can come to
+-- what so many units count for: at the sheet's price, at their worth, or at the least that they can come to
 abbrev pub line-value : Figure → (ℕ → List Piece) → List Order → Instrument → ℤ → ℤ
 line-value Net pieces os i q = counted (any-sheet pieces) i q *ℤ pos (i .price)
+line-value Worth pieces os i q = worth (pieces-of (any-sheet pieces) i) (i .price) q
 line-value Low pieces os i q = low (any-sheet pieces) (one-line q os) i
 
 abbrev pub shock-in : Figure → (ℕ → List Piece) → ℕ → ℤ → ℤ
 shock-in Net pieces c e = e
+shock-in Worth pieces c e = shocked (any-sheet pieces) c e
 shock-in Low pieces c e = shocked (any-sheet pieces) c e
 
 -- f of what was found, and 0 where nothing was

@@ -2,8 +2,7 @@
 ghost use mathlib.Core.Path.{_≡_};
 ghost use mathlib.Core.Bool.{cond};
 ghost use mathlib.Core.List.{[]};
-ghost use Prim.Native.Nat.{ℕ, _^_, _≤_, max};
-ghost use lib.IntN.{natAbs};
+ghost use Prim.Native.Nat.{_^_, _≤_, max};
 ghost use lib.ListN.{length};
 ghost use Rattle.std.specs.shelf.Lists.{kept-by};
 ghost use Rattle.keyed.specs.Rows.{Rising};

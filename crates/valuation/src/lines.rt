@@ -1,7 +1,7 @@
 // One line, and one currency.
 ghost use mathlib.Core.Path.{_≡_};
 ghost use mathlib.Core.Bool.{cond, _&&_};
-ghost use Prim.Native.Nat.{ℕ, _+_, _*_, _^_, _≤_};
+ghost use Prim.Native.Nat.{_*_, _^_, _≤_};
 ghost use lib.IntN.{natAbs, pos, _*ℤ_};
 ghost use lib.ListN.{length};
 ghost use Rattle.margin.specs.Numbers.{down, below};

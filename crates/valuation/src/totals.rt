@@ -1,7 +1,7 @@
 // The figures of a whole portfolio: its lines walked, each code looked up in the sheet, for each currency alone.
 ghost use mathlib.Core.Path.{_≡_};
 ghost use mathlib.Core.List.{[]};
-ghost use Prim.Native.Nat.{ℕ, _*_, _^_, _≤_};
+ghost use Prim.Native.Nat.{_*_, _^_, _≤_};
 ghost use lib.IntN.{natAbs};
 ghost use lib.ListN.{length};
 ghost use Rattle.keyed.specs.Rows.{Rising, lookup};
@@ -19,6 +19,7 @@ use crate::lines::in_roubles;
 use crate::lines::low;
 use crate::lines::net;
 use crate::lines::shocked;
+use crate::lines::worth;
 use keyed::find;
 use margin::Currency;
 use margin::Figures;
@@ -28,10 +29,11 @@ use margin::Order;
 use margin::figures_from;
 use rates::RateSource;
 
-// What a line counts for: its price, or the least that it can come to.
+// What a line counts for: its price, its worth, or the least that it can come to.
 #[derive(Clone, Copy)]
 pub enum Figure {
     Net,
+    Worth,
     Low,
 }
 
@@ -59,6 +61,7 @@ fn line_figure<S: RateSource>(
 {
     match figure {
         Figure::Net => net(instrument, line),
+        Figure::Worth => worth(source, instrument, line),
         Figure::Low => low(source, instrument, line, orders),
     }
 }
@@ -70,6 +73,7 @@ fn shock<S: RateSource>(figure: Figure, source: &S, currency: u16, amount: i128)
 {
     match figure {
         Figure::Net => amount,
+        Figure::Worth => shocked(source, currency, amount),
         Figure::Low => shocked(source, currency, amount),
     }
 }
@@ -241,7 +245,7 @@ pub fn worst_case<S: RateSource>(
     )
 }
 
-// The first ratio of a portfolio: its worst case with no order standing.
+// The first ratio of a portfolio, which no order moves.
 pub fn first_ratio<S: RateSource>(
     source: &S,
     currencies: &[Currency],
@@ -257,7 +261,15 @@ pub fn first_ratio<S: RateSource>(
     ensures is { λ r. ⌜ r ≡ first-ratio (sheet-of (pieces (now (source .entry))) (now (currencies .entry)) (now (instruments .entry))) (holding-of (cash-by (now (currencies .entry)) (now (cash .entry))) (now (lines .entry)) []) ⌝ }
     ensures small { λ r. ⌜ natAbs r ≤ 2 ^ 120 ⌝ }
 {
-    worst_case(source, currencies, instruments, lines, &[], cash)
+    figure_of(
+        Figure::Worth,
+        source,
+        currencies,
+        instruments,
+        lines,
+        &[],
+        cash,
+    )
 }
 
 // All figures of a portfolio.

@@ -90,14 +90,7 @@ pub impl RateSource for SteppedRates as SteppedSource {
 }
 
 // The row of a rate whose numbers are in their ranges.
-fn checked(
-    code: u16,
-    s1: u16,
-    s2: u16,
-    s3: u16,
-    k1: u32,
-    k2: u32,
-) -> Result<SteppedRow, FieldFault>
+fn checked(code: u16, s1: u16, s2: u16, s3: u16, k1: u32, k2: u32) -> Result<SteppedRow, FieldFault>
     ensures { λ r. ⌜ Checked (no-rated-code code || no-steps s1 s2 s3 || no-limits k1 k2) (λ x. (x .code ≡ code) × (x .s1 ≡ s1) × (x .s2 ≡ s2) × (x .s3 ≡ s3) × (x .k1 ≡ k1) × (x .k2 ≡ k2)) r ⌝ }
 {
     check_stepped(code, s1, s2, s3, k1, k2, 0)?;

@@ -1,9 +1,7 @@
-use mathlib.Core.Path.{_≡_, sym, ap, _∙_}
+use mathlib.Core.Path.{_≡_, ap, _∙_}
 use mathlib.Core.List.{List}
-use Prim.Native.Nat.{ℕ, max}
-use mathlib.Core.Bool.{cond}
 use borrow.Author.Needs.{needs}
-use lib.ListN.{take, getD}
+use lib.ListN.{take}
 use Rattle.std.specs.shelf.Lists.{kept-by}
 use Rattle.std.proofs.shelf.Lists.{take-all}
 use Rattle.margin.specs.declared.Side.the-variants.{Buy}

@@ -1,6 +1,6 @@
 use native.Mathlib.Omega.{arith}
 use borrow.Author.Needs.{needs}
-use Rattle.valuation.proofs.Raws.{Fitting, fitting}
+use Rattle.valuation.proofs.Raws.{fitting}
 use Rattle.valuation.proofs.pieces.raw_value.Needs as need
 
 pub mul-result : need.mul-result
