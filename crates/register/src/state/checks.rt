@@ -1,5 +1,4 @@
-// What is asked of the register. `answer` says which refusal comes, or what is answered, for every register that can
-// exist; `tables` says what it then holds. A refusal leaves it as it was.
+// The checks of each call in their order, and the change where none fails. A refusal leaves the register as it was.
 ghost use mathlib.Core.Path.{_≡_};
 ghost use lib.IntN.{pos, negℤ};
 ghost use Rattle.std.specs.Results.{Cases};
