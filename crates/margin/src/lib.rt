@@ -59,11 +59,12 @@ pub struct Figures {
 }
 
 mod cash;
+mod currencies;
 pub mod facts;
-mod keys;
+mod instruments;
 
 pub use cash::cash_figures;
 pub use cash::figures_from;
 pub use cash::in_roubles;
-pub use keys::CurrencyKeyed;
-pub use keys::InstrumentKeyed;
+pub use currencies::CurrencyKeyed;
+pub use instruments::InstrumentKeyed;
