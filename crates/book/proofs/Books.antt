@@ -3,63 +3,61 @@ use Rattle.std.proofs.Common.{◌≡◌, ℕ, zero, suc, ◌+◌, ◌-◌, ◌<�
 use Rattle.std.proofs.lemmas.List.{map_push}
 use Rattle.std.proofs.lemmas.Bool.{eq-eqb, ne_eqb, cond-true, cond-false, cond_both, ltb-false, eqb-false}
 use Rattle.book.specs.declared.reader.Item.{Item}
-use Rattle.book.specs.declared.tags.Rates.{Rates}
 use Rattle.book.specs.Book.{Entry, Front, cut_off, stated, front, fields_from, fields_of, seen}
 
-module _ (r : Rates) where
-  -- a field has a byte at least
-  pub shorter : (bs : List ℕ) (p : ℕ) → length (front r bs p).rest ≤ length bs - 1
-  shorter bs p =
-      cond_both (cut_off bs) _ _ (λ (f : Front). length f.rest ≤ length bs - 1) (λ _. omega arith)
-      (λ e. omega (arith, ltb-false _ _ e, length-drop (stated bs) (drop 3 bs), length-drop 3 bs))
+-- a field has a byte at least
+pub shorter : (bs : List ℕ) (p : ℕ) → length (front bs p).rest ≤ length bs - 1
+shorter bs p =
+    cond_both (cut_off bs) _ _ (λ (f : Front). length f.rest ≤ length bs - 1) (λ _. omega arith)
+    (λ e. omega (arith, ltb-false _ _ e, length-drop (stated bs) (drop 3 bs), length-drop 3 bs))
 
-  none_left : (n : ℕ) (bs : List ℕ) (p : ℕ) → length bs ≡ 0 → fields_from r n bs p ≡ []
-  none_left zero bs p e = refl
-  none_left (suc n) bs p e = cond-true _ _ _ (eq-eqb _ _ e)
+none_left : (n : ℕ) (bs : List ℕ) (p : ℕ) → length bs ≡ 0 → fields_from n bs p ≡ []
+none_left zero bs p e = refl
+none_left (suc n) bs p e = cond-true _ _ _ (eq-eqb _ _ e)
 
-  enough : (n m : ℕ) (bs : List ℕ) (p : ℕ) → length bs ≤ n → length bs ≤ m → fields_from r n bs p ≡ fields_from r m bs p
-  enough zero m bs p h k = sym (none_left m bs p (omega arith))
-  enough (suc n) zero bs p h k = none_left (suc n) bs p (omega arith)
-  enough (suc n) (suc m) bs p h k =
-      let l = shorter bs p in
-      ap (λ (es : List Entry). cond (eqb (length bs) 0) [] ((front r bs p).entry ∷ es))
-      (enough n m (front r bs p).rest (p + (length bs - length (front r bs p).rest)) (omega arith) (omega arith))
+enough : (n m : ℕ) (bs : List ℕ) (p : ℕ) → length bs ≤ n → length bs ≤ m → fields_from n bs p ≡ fields_from m bs p
+enough zero m bs p h k = sym (none_left m bs p (omega arith))
+enough (suc n) zero bs p h k = none_left (suc n) bs p (omega arith)
+enough (suc n) (suc m) bs p h k =
+    let l = shorter bs p in
+    ap (λ (es : List Entry). cond (eqb (length bs) 0) [] ((front bs p).entry ∷ es))
+    (enough n m (front bs p).rest (p + (length bs - length (front bs p).rest)) (omega arith) (omega arith))
 
-  -- the fields of a book that is not at its end
-  step_from : (n : ℕ) (bs : List ℕ) (p : ℕ) → length bs ≡ suc n → fields_from r (suc n) bs p ≡ (front r bs p).entry ∷ fields_of r (front r bs p).rest (p + (length bs - length (front r bs p).rest))
-  step_from n bs p e =
-      let l = shorter bs p in
-      cond-false _ _ _ (ne_eqb (length bs) 0 (λ z. omega arith))
-      ∙ ap (λ (es : List Entry). (front r bs p).entry ∷ es) (enough n (length (front r bs p).rest) (front r bs p).rest (p + (length bs - length (front r bs p).rest)) (omega arith) (omega arith))
+-- the fields of a book that is not at its end
+step_from : (n : ℕ) (bs : List ℕ) (p : ℕ) → length bs ≡ suc n → fields_from (suc n) bs p ≡ (front bs p).entry ∷ fields_of (front bs p).rest (p + (length bs - length (front bs p).rest))
+step_from n bs p e =
+    let l = shorter bs p in
+    cond-false _ _ _ (ne_eqb (length bs) 0 (λ z. omega arith))
+    ∙ ap (λ (es : List Entry). (front bs p).entry ∷ es) (enough n (length (front bs p).rest) (front bs p).rest (p + (length bs - length (front bs p).rest)) (omega arith) (omega arith))
 
-  step_at : (n : ℕ) (bs : List ℕ) (p : ℕ) → length bs ≡ n → 0 < n → fields_of r bs p ≡ (front r bs p).entry ∷ fields_of r (front r bs p).rest (p + (length bs - length (front r bs p).rest))
-  step_at zero bs p e h = absurd (omega arith)
-  step_at (suc n) bs p e h = ap (λ (k : ℕ). fields_from r k bs p) e ∙ step_from n bs p e
+step_at : (n : ℕ) (bs : List ℕ) (p : ℕ) → length bs ≡ n → 0 < n → fields_of bs p ≡ (front bs p).entry ∷ fields_of (front bs p).rest (p + (length bs - length (front bs p).rest))
+step_at zero bs p e h = absurd (omega arith)
+step_at (suc n) bs p e h = ap (λ (k : ℕ). fields_from k bs p) e ∙ step_from n bs p e
 
-  book_step : (bs : List ℕ) (p : ℕ) → 0 < length bs → fields_of r bs p ≡ (front r bs p).entry ∷ fields_of r (front r bs p).rest (p + (length bs - length (front r bs p).rest))
-  book_step bs p h = step_at (length bs) bs p refl h
+book_step : (bs : List ℕ) (p : ℕ) → 0 < length bs → fields_of bs p ≡ (front bs p).entry ∷ fields_of (front bs p).rest (p + (length bs - length (front bs p).rest))
+book_step bs p h = step_at (length bs) bs p refl h
 
-  -- what the reader answers, where it answers a field
-  pos_of : (n : ℕ) → (n ≡ 0 → ⊥) → 0 < n
-  pos_of zero h = absurd (h refl)
-  pos_of (suc n) h = omega arith
+-- what the reader answers, where it answers a field
+pos_of : (n : ℕ) → (n ≡ 0 → ⊥) → 0 < n
+pos_of zero h = absurd (h refl)
+pos_of (suc n) h = omega arith
 
-  some_front : (b : Bool) (x y : Front) → Some x ≡ cond b None (Some y) → (b ≡ false) × (x ≡ y)
-  some_front true x y e = let z : ◌≡◌ {A = ℕ} 0 1 = cc in absurd (omega arith)
-  some_front false x y e = (refl, cc)
+some_front : (b : Bool) (x y : Front) → Some x ≡ cond b None (Some y) → (b ≡ false) × (x ≡ y)
+some_front true x y e = let z : ◌≡◌ {A = ℕ} 0 1 = cc in absurd (omega arith)
+some_front false x y e = (refl, cc)
 
-  pub told : (i : Item) (bs rest : List ℕ) (p : ℕ) → Some (record { entry = seen i; rest = rest }) ≡ cond (eqb (length bs) 0) None (Some (front r bs p)) → (0 < length bs) × (record { entry = seen i; rest = rest } ≡ front r bs p)
-  told i bs rest p e =
-      let h = some_front (eqb (length bs) 0) (record { entry = seen i; rest = rest }) (front r bs p) e in
-      let n = eqb-false (length bs) 0 h.0 in
-      (pos_of (length bs) n, h.1)
+pub told : (bs : List ℕ) (p : ℕ) (x : Front) → Some x ≡ cond (eqb (length bs) 0) None (Some (front bs p)) → (0 < length bs) × (x ≡ front bs p)
+told bs p x e =
+    let h = some_front (eqb (length bs) 0) x (front bs p) e in
+    let n = eqb-false (length bs) 0 h.0 in
+    (pos_of (length bs) n, h.1)
 
-  -- one turn of the loop
-  pub turn : (out new : List Item) (i : Item) (bs rest : List ℕ) (p : ℕ) (all : List Entry) → 0 < length bs → record { entry = seen i; rest = rest } ≡ front r bs p → new ≡ out ++ i ∷ [] →
-      map seen out ++ fields_of r bs p ≡ all → map seen new ++ fields_of r rest (p + (length bs - length rest)) ≡ all
-  turn out new i bs rest p all h e n inv =
-      ap (λ (l : List Item). map seen l ++ fields_of r rest (p + (length bs - length rest))) n
-      ∙ ap (λ (l : List Entry). l ++ fields_of r rest (p + (length bs - length rest))) (map_push seen out i)
-      ∙ append_assoc (map seen out) (seen i ∷ []) (fields_of r rest (p + (length bs - length rest)))
-      ∙ ap (λ (f : Front). map seen out ++ (f.entry ∷ fields_of r f.rest (p + (length bs - length f.rest)))) e
-      ∙ ap (λ (l : List Entry). map seen out ++ l) (sym (book_step bs p h)) ∙ inv
+-- one turn of the loop
+pub turn : (out new : List Item) (i : Item) (bs rest : List ℕ) (p : ℕ) (all : List Entry) → 0 < length bs → record { entry = seen i; rest = rest } ≡ front bs p → new ≡ out ++ i ∷ [] →
+    map seen out ++ fields_of bs p ≡ all → map seen new ++ fields_of rest (p + (length bs - length rest)) ≡ all
+turn out new i bs rest p all h e n inv =
+    ap (λ (l : List Item). map seen l ++ fields_of rest (p + (length bs - length rest))) n
+    ∙ ap (λ (l : List Entry). l ++ fields_of rest (p + (length bs - length rest))) (map_push seen out i)
+    ∙ append_assoc (map seen out) (seen i ∷ []) (fields_of rest (p + (length bs - length rest)))
+    ∙ ap (λ (f : Front). map seen out ++ (f.entry ∷ fields_of f.rest (p + (length bs - length f.rest)))) e
+    ∙ ap (λ (l : List Entry). map seen out ++ l) (sym (book_step bs p h)) ∙ inv

@@ -3,6 +3,4 @@ pub mod Fronts
 pub mod Refusals
 mod Spelling
 mod Lookups
-mod Contents
-mod Payloads
 mod Books

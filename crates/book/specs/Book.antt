@@ -5,7 +5,6 @@ use Rattle.book.specs.declared.faults.FieldCause.TheVariants.{Ends, UnknownTag, 
 use Rattle.book.specs.declared.faults.FieldFault.{FieldFault}
 use Rattle.book.specs.declared.fields.Field.{Field}
 use Rattle.book.specs.declared.reader.Item.{Item}
-use Rattle.book.specs.declared.tags.Rates.{Rates}
 use Rattle.book.specs.Faults.{fault}
 use Rattle.book.specs.Tags.{payload_length}
 use Rattle.book.specs.Requests.{Request, request, out_of_range, asked}
@@ -25,8 +24,8 @@ abbrev pub by_length : Option ℕ → ℕ → List ℕ → ℕ → Result Reques
 by_length None t payload p = Err (fault UnknownTag p)
 by_length (Some n) t payload p = cond (length payload == n) (in_range (request t payload) p) (Err (fault Length p))
 
-abbrev pub content : Rates → ℕ → List ℕ → ℕ → Result Request FieldFault
-content r t payload p = by_length (payload_length r t) t payload p
+abbrev pub content : ℕ → List ℕ → ℕ → Result Request FieldFault
+content t payload p = by_length (payload_length t) t payload p
 
 abbrev pub tag : List ℕ → ℕ
 tag bs = slice_index bs 0
@@ -44,25 +43,25 @@ pub record Front : Type 0 where
   pub entry : Entry
   pub rest : List ℕ
 
-abbrev pub front : Rates → List ℕ → ℕ → Front
-front r bs p =
+abbrev pub front : List ℕ → ℕ → Front
+front bs p =
     cond (cut_off bs)
     (record { entry = record { tag = tag bs; place = p; content = Err (fault Ends p) }; rest = [] })
-    (record { entry = record { tag = tag bs; place = p; content = content r (tag bs) (take (stated bs) (drop 3 bs)) p }; rest = drop (stated bs) (drop 3 bs) })
+    (record { entry = record { tag = tag bs; place = p; content = content (tag bs) (take (stated bs) (drop 3 bs)) p }; rest = drop (stated bs) (drop 3 bs) })
 
 -- at most n fields from the place p on
-abbrev pub fields_from : Rates → ℕ → List ℕ → ℕ → List Entry
-fields_from r zero bs p = []
-fields_from r (suc n) bs p =
-    cond (length bs == 0) [] ((front r bs p).entry ∷ fields_from r n (front r bs p).rest (p + (length bs - length (front r bs p).rest)))
+abbrev pub fields_from : ℕ → List ℕ → ℕ → List Entry
+fields_from zero bs p = []
+fields_from (suc n) bs p =
+    cond (length bs == 0) [] ((front bs p).entry ∷ fields_from n (front bs p).rest (p + (length bs - length (front bs p).rest)))
 
 -- the fields of a book: its length bounds how many there are, since each has a byte at least
-abbrev pub fields_of : Rates → List ℕ → ℕ → List Entry
-fields_of r bs p = fields_from r (length bs) bs p
+abbrev pub fields_of : List ℕ → ℕ → List Entry
+fields_of bs p = fields_from (length bs) bs p
 
 -- only so many bytes of a book are read; its first byte has the place 1
-abbrev pub fields : Rates → List ℕ → List Entry
-fields r bs = fields_of r (take 65536 bs) 1
+abbrev pub fields : List ℕ → List Entry
+fields bs = fields_of (take 65536 bs) 1
 
 -- ---- what the reader hands on, with its references read
 abbrev pub content_of : Result Field FieldFault → Result Request FieldFault

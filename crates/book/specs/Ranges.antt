@@ -17,14 +17,6 @@ no_currency c = outside 1 999 c
 abbrev pub no_code : ℕ → Bool
 no_code c = outside 1000 65535 c
 
--- the kind of an instrument is 0, 1 or 2
-abbrev pub no_kind : ℕ → Bool
-no_kind k = nat_lt 2 k
-
--- the side of an order is 0 or 1
-abbrev pub no_side : ℕ → Bool
-no_side d = nat_lt 1 d
-
 -- the number of an order
 abbrev pub no_number : ℕ → Bool
 no_number n = outside 1 4294967295 n

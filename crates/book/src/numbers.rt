@@ -2,12 +2,6 @@
 ghost use Rattle.std.specs.Prelude.{◌≡◌};
 ghost use Rattle.book.specs.Numbers.{number};
 
-pub fn one(bytes: &[u8; 1]) -> u8
-    ensures { result ≡ number bytes.now }
-{
-    u8::from_be_bytes(*bytes)
-}
-
 pub fn two(bytes: &[u8; 2]) -> u16
     ensures { result ≡ number bytes.now }
 {

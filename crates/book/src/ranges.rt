@@ -1,18 +1,10 @@
 // The ranges of the numbers that a field or a call brings. A number outside its range is the field's fault 4.
 ghost use Rattle.std.specs.Prelude.{◌≡◌, ◌||◌};
-ghost use Rattle.book.specs.Ranges.{no_portfolio, no_currency, no_code, no_kind, no_side, no_number, no_quantity, no_fx, no_amount, no_rated_code, no_risk_rate, no_steps, no_limits, ranged};
+ghost use Rattle.book.specs.Ranges.{no_portfolio, no_currency, no_fx, no_amount, no_rated_code, no_risk_rate, no_steps, no_limits, ranged};
 
 use crate::faults::{FieldCause, FieldFault};
 
 const LAST_CURRENCY: u16 = 999;
-
-const FIRST_CODE: u16 = 1_000;
-
-const LAST_KIND: u8 = 2;
-
-const LAST_SIDE: u8 = 1;
-
-const MOST_QUANTITY: u32 = 1_000_000_000;
 
 const MOST_FX: u32 = 10_000_000;
 
@@ -39,19 +31,6 @@ fn not_a_currency(code: u16) -> bool
     ensures { result ≡ no_currency code }
 {
     code == 0 || code > LAST_CURRENCY
-}
-
-fn not_a_code(code: u16) -> bool
-    ensures { result ≡ no_code code }
-{
-    code < FIRST_CODE
-}
-
-// A price has the same range.
-fn not_a_quantity(quantity: u32) -> bool
-    ensures { result ≡ no_quantity quantity }
-{
-    quantity == 0 || quantity > MOST_QUANTITY
 }
 
 fn not_an_fx(fx: u32) -> bool
@@ -92,83 +71,7 @@ pub fn check_payment(
     ranged(not_a_currency(currency) || not_an_amount(amount), place)
 }
 
-// The numbers of an instrument entry: its code, its currency, and its price in hundredths.
-pub fn check_instrument(
-    code: u16,
-    currency: u16,
-    price: u32,
-    place: usize,
-) -> Result<(), FieldFault>
-    ensures { result ≡ ranged (no_code code || no_currency currency || no_quantity price) place }
-{
-    ranged(
-        not_a_code(code) || not_a_currency(currency) || not_a_quantity(price),
-        place,
-    )
-}
-
-// The kind of an instrument as a book has it.
-pub(crate) fn check_kind(kind: u8, place: usize) -> Result<(), FieldFault>
-    ensures { result ≡ ranged (no_kind kind) place }
-{
-    ranged(kind > LAST_KIND, place)
-}
-
-// The side of an order as a book has it.
-pub(crate) fn check_side(side: u8, place: usize) -> Result<(), FieldFault>
-    ensures { result ≡ ranged (no_side side) place }
-{
-    ranged(side > LAST_SIDE, place)
-}
-
-// The numbers of a delivery: its portfolio, and the code and the quantity of what is delivered.
-pub fn check_delivery(
-    portfolio: u16,
-    code: u16,
-    quantity: u32,
-    place: usize,
-) -> Result<(), FieldFault>
-    ensures { result ≡ ranged (no_portfolio portfolio || no_code code || no_quantity quantity) place }
-{
-    check_portfolio(portfolio, place)?;
-    ranged(not_a_code(code) || not_a_quantity(quantity), place)
-}
-
-// The number of an order.
-pub fn check_number(number: u32, place: usize) -> Result<(), FieldFault>
-    ensures { result ≡ ranged (no_number number) place }
-{
-    ranged(number == 0, place)
-}
-
-// The numbers of an order: its portfolio, its own number, and the code, the quantity and the price.
-pub fn check_placing(
-    portfolio: u16,
-    number: u32,
-    code: u16,
-    quantity: u32,
-    price: u32,
-    place: usize,
-) -> Result<(), FieldFault>
-    ensures { result ≡ ranged (no_portfolio portfolio || no_number number || no_code code || no_quantity quantity || no_quantity price) place }
-{
-    check_portfolio(portfolio, place)?;
-    check_number(number, place)?;
-    ranged(
-        not_a_code(code) || not_a_quantity(quantity) || not_a_quantity(price),
-        place,
-    )
-}
-
-// The numbers of a fill: its order, and the quantity and the price of the deal.
-pub fn check_fill(number: u32, quantity: u32, price: u32, place: usize) -> Result<(), FieldFault>
-    ensures { result ≡ ranged (no_number number || no_quantity quantity || no_quantity price) place }
-{
-    check_number(number, place)?;
-    ranged(not_a_quantity(quantity) || not_a_quantity(price), place)
-}
-
-fn not_rated_code(code: u16) -> bool
+fn not_an_fxd_code(code: u16) -> bool
     ensures { result ≡ no_rated_code code }
 {
     code == 0 || code == ROUBLE
@@ -191,7 +94,7 @@ pub fn check_posted(code: u16, plus: u16, minus: u16, place: usize) -> Result<()
     ensures { result ≡ ranged (no_rated_code code || no_risk_rate plus || no_risk_rate minus) place }
 {
     ranged(
-        not_rated_code(code) || not_a_risk_rate(plus) || not_a_risk_rate(minus),
+        not_an_fxd_code(code) || not_a_risk_rate(plus) || not_a_risk_rate(minus),
         place,
     )
 }
@@ -209,7 +112,7 @@ pub fn check_stepped(
     ensures { result ≡ ranged (no_rated_code code || no_steps s1 s2 s3 || no_limits k1 k2) place }
 {
     ranged(
-        not_rated_code(code) || not_steps(s1, s2, s3) || k1 > k2,
+        not_an_fxd_code(code) || not_steps(s1, s2, s3) || k1 > k2,
         place,
     )
 }

@@ -1,13 +1,16 @@
 // Reads a book field by field.
-ghost use Rattle.std.specs.Prelude.{◌≡◌, map, length, IfOk, if◌then◌else◌, Some, None, nat_eq};
+ghost use Rattle.std.specs.Prelude.{◌≡◌, map, length, IfOk, if◌then◌else◌, Some, None, MatchOption, nat_eq};
 ghost use Rattle.std.specs.Option.{option_map};
-ghost use Rattle.book.specs.Book.{content, front, fields, content_of, place_of, seen, seen_front};
+ghost use Rattle.book.specs.Tags.{payload_length};
+ghost use Rattle.book.specs.Ranges.{ranged};
+ghost use Rattle.book.specs.Requests.{request, out_of_range, asked, Parts};
+ghost use Rattle.book.specs.Book.{in_range, content, front, fields, content_of, place_of, seen, seen_front};
 
-use crate::bounds::in_range;
 use crate::faults::{FieldCause, FieldFault};
-use crate::fields::Field;
-use crate::kinds::kind_of;
-use crate::tags::{Rates, payload_length};
+use crate::fields::{Field, Kind, Payment};
+use crate::numbers::{eight, four, two};
+use crate::ranges::{check_currency, check_payment, check_portfolio};
+use crate::tags;
 use std::alloc::{AllocError, Global};
 
 // At most so many bytes of a book are read.
@@ -20,17 +23,82 @@ pub struct Item<'a> {
     pub field: Result<Field<'a>, FieldFault>,
 }
 
-// The field of a tag and a payload.
-fn field_of<'a>(
-    tag: u8,
-    payload: &'a [u8],
-    place: usize,
-    rates: Rates,
-) -> Result<Field<'a>, FieldFault>
-    ensures content { content_of result ≡ content rates tag payload.now place }
+// The two parts of a currency entry.
+fn currency<'a>(payload: &'a [u8]) -> Option<Kind<'a>>
+    ensures { length payload.now ≡ 6 → option_map asked result ≡ Some (request 0x01 payload.now) }
+{
+    let (code, rest) = payload.split_first_chunk::<2>()?;
+    let (fx, _) = rest.split_first_chunk::<4>()?;
+    Some(Kind::Currency { code, fx })
+}
+
+// The three parts of a payment.
+fn payment<'a>(payload: &'a [u8]) -> Option<Payment<'a>>
+    ensures { length payload.now ≡ 12 → MatchOption result ⊥ (λ y. Parts y payload.now) }
+{
+    let (portfolio, rest) = payload.split_first_chunk::<2>()?;
+    let (currency, rest) = rest.split_first_chunk::<2>()?;
+    let (amount, _) = rest.split_first_chunk::<8>()?;
+    Some(Payment {
+        portfolio,
+        currency,
+        amount,
+    })
+}
+
+// The field of a known tag, by a payload of its length.
+fn kind_of<'a>(tag: u8, payload: &'a [u8]) -> Option<Kind<'a>>
+    ensures { payload_length tag ≡ Some (length payload.now) → option_map asked result ≡ Some (request tag payload.now) }
+{
+    match tag {
+        tags::CURRENCY => currency(payload),
+        tags::PUT_IN_FORCE => Some(Kind::PutInForce),
+        tags::OPEN => Some(Kind::Open {
+            portfolio: payload.first_chunk::<2>()?,
+        }),
+        tags::PAY_IN => Some(Kind::PayIn(payment(payload)?)),
+        tags::PAY_OUT => Some(Kind::PayOut(payment(payload)?)),
+        tags::FIGURES => Some(Kind::Figures {
+            portfolio: payload.first_chunk::<2>()?,
+        }),
+        _ => None,
+    }
+}
+
+// Refuses a field with a number outside its range.
+fn check_range(kind: &Kind, place: usize) -> Result<(), FieldFault>
+    ensures { result ≡ ranged (out_of_range (asked kind.now)) place }
+{
+    match kind {
+        Kind::Currency { code, fx } => check_currency(two(code), four(fx), place),
+        Kind::PutInForce => Ok(()),
+        Kind::Open { portfolio } | Kind::Figures { portfolio } => {
+            check_portfolio(two(portfolio), place)
+        }
+        Kind::PayIn(payment) | Kind::PayOut(payment) => check_payment(
+            two(payment.portfolio),
+            two(payment.currency),
+            eight(payment.amount),
+            place,
+        ),
+    }
+}
+
+// The field, where its numbers are in their ranges.
+fn in_range<'a>(kind: Kind<'a>, place: usize) -> Result<Field<'a>, FieldFault>
+    ensures content { content_of result ≡ in_range (asked kind.entry) place }
     ensures place { place_of result ≡ place }
 {
-    let Some(length) = payload_length(tag, rates) else {
+    check_range(&kind, place)?;
+    Ok(Field { kind, place })
+}
+
+// The field of a tag and a payload.
+fn field_of<'a>(tag: u8, payload: &'a [u8], place: usize) -> Result<Field<'a>, FieldFault>
+    ensures content { content_of result ≡ content tag payload.now place }
+    ensures place { place_of result ≡ place }
+{
+    let Some(length) = tags::payload_length(tag) else {
         return Err(FieldFault {
             cause: FieldCause::UnknownTag,
             place,
@@ -53,8 +121,8 @@ fn field_of<'a>(
 
 // The field at the front of what is left of a book, and what stands after it; None at the book's end. `place` is the
 // place of its first byte. After refusal 1 nothing is left.
-pub fn next_item<'a>(rest: &'a [u8], place: usize, rates: Rates) -> Option<(Item<'a>, &'a [u8])>
-    ensures { option_map seen_front result ≡ (if nat_eq (length rest.now) 0 then None else Some (front rates rest.now place)) }
+pub fn next_item<'a>(rest: &'a [u8], place: usize) -> Option<(Item<'a>, &'a [u8])>
+    ensures { option_map seen_front result ≡ (if nat_eq (length rest.now) 0 then None else Some (front rest.now place)) }
 {
     let ends = Err(FieldFault {
         cause: FieldCause::Ends,
@@ -70,22 +138,18 @@ pub fn next_item<'a>(rest: &'a [u8], place: usize, rates: Rates) -> Option<(Item
         return Some((Item { tag, field: ends }, &[]));
     }
     let (payload, after) = tail.split_at(length);
-    let field = field_of(tag, payload, place, rates);
+    let field = field_of(tag, payload, place);
     Some((Item { tag, field }, after))
 }
 
 // The fields of a book in their order. Bytes past the first 65,536 are not read.
-pub fn read_book<'a>(
-    heap: Global,
-    book: &'a [u8],
-    rates: Rates,
-) -> Result<Vec<Item<'a>>, AllocError>
-    ensures { IfOk result (λ v. map seen v.items ≡ fields rates book.now) }
+pub fn read_book<'a>(heap: Global, book: &'a [u8]) -> Result<Vec<Item<'a>>, AllocError>
+    ensures { IfOk result (λ v. map seen v.items ≡ fields book.now) }
 {
     let mut items = Vec::new(heap);
     let mut rest = &book[0..book.len().min(MOST_BYTES)];
     let mut place = 1;
-    while let Some((item, after)) = next_item(rest, place, rates) {
+    while let Some((item, after)) = next_item(rest, place) {
         items.push(item)?;
         place += rest.len() - after.len();
         rest = after;

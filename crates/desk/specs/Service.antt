@@ -13,14 +13,14 @@ use Rattle.sheet.specs.declared.faults.SheetCause.TheVariants.{NotInForce}
 use Rattle.sheet.specs.declared.faults.SheetFault.{SheetFault}
 use Rattle.sheet.specs.declared.faults.SheetFault.TheVariants.{Field as InField}
 use Rattle.sheet.specs.Faults as sheets
-use Rattle.sheet.specs.Drafts.{enters, EnteredIn, closes, closed-entries}
+use Rattle.sheet.specs.Drafts.{enters, EnteredIn, closes, closed_entries}
 use Rattle.register.specs.declared.faults.RegisterFault.{RegisterFault}
 use Rattle.register.specs.declared.faults.RegisterFault.TheVariants.{Sheet as InSheet}
 use Rattle.register.specs.declared.state.Register.{Register}
 use Rattle.register.specs.Faults.{fault_at}
 use Rattle.register.specs.State.{Unchanged, Opens, Pays, Puts, Begins}
-use Rattle.register.specs.Answers.{opens, pays_in, pays-out, tells, puts}
-use Rattle.register.specs.Runs.{said, said_figures, Said-Put, Reached, Run}
+use Rattle.register.specs.Answers.{opens, pays_in, pays_out, tells, puts}
+use Rattle.register.specs.Runs.{said, said_figures, said_put, Reached, Run}
 use Rattle.rules.specs.Calls as calls
 use Rattle.rules.specs.Histories.{History, Places, opened_with, asked}
 use Rattle.desk.specs.declared.replies.Outcome.{Outcome}
@@ -61,7 +61,7 @@ answer d (enter_currency c x) = entered (enters d.drafting.draft d.drafting.tabl
 answer d put_in_force = closed d.register d.drafting.table (closes d.drafting.draft d.drafting.table)
 answer d (open_portfolio p) = with_register d.register (λ r. done (opens r p))
 answer d (pay_in p c x) = with_register d.register (λ r. done (pays_in r p c x))
-answer d (pay_out p c x) = with_register d.register (λ r. done (pays-out r p c x))
+answer d (pay_out p c x) = with_register d.register (λ r. done (pays_out r p c x))
 answer d (figures p) = with_register d.register (λ r. told (tells r p))
 
 -- ---- what a request leaves: d before, e after
@@ -78,9 +78,9 @@ Calls d e R = (e.drafting ≡ d.drafting) × OnRegister d.register e.register R
 abbrev pub PutLeaves : Option Register → Option Register → List Currency → Result ClosedSheet (SheetFault × Draft) → Type 0
 PutLeaves o u table (Err x) = u ≡ o
 PutLeaves None None table (Ok c) = ⊥
-PutLeaves None (Some t) table (Ok c) = Begins (cash_sheet (closed-entries c table)) 64 t
+PutLeaves None (Some t) table (Ok c) = Begins (cash_sheet (closed_entries c table)) 64 t
 PutLeaves (Some r) None table (Ok c) = ⊥
-PutLeaves (Some r) (Some t) table (Ok c) = MatchResult (puts r c table) (λ _. Puts r (cash_sheet (closed-entries c table)) t) (λ _. Unchanged r t)
+PutLeaves (Some r) (Some t) table (Ok c) = MatchResult (puts r c table) (λ _. Puts r (cash_sheet (closed_entries c table)) t) (λ _. Unchanged r t)
 
 -- the closed sheet opens the register
 abbrev pub Opened : Desk → ClosedSheet → Desk → Type 0
@@ -98,7 +98,7 @@ Leaves d put_in_force e =
     × PutLeaves d.register e.register d.drafting.table (closes d.drafting.draft d.drafting.table)
 Leaves d (open_portfolio p) e = Calls d e (λ r t. MatchResult (opens r p) (λ _. Opens r p t) (λ _. Unchanged r t))
 Leaves d (pay_in p c x) e = Calls d e (λ r t. MatchResult (pays_in r p c x) (λ _. Pays r p c (pos x) t) (λ _. Unchanged r t))
-Leaves d (pay_out p c x) e = Calls d e (λ r t. MatchResult (pays-out r p c x) (λ _. Pays r p c (neg_ℤ (pos x)) t) (λ _. Unchanged r t))
+Leaves d (pay_out p c x) e = Calls d e (λ r t. MatchResult (pays_out r p c x) (λ _. Pays r p c (neg_ℤ (pos x)) t) (λ _. Unchanged r t))
 Leaves d (figures p) e = e ≡ d
 
 -- ---- the calls of a book as a history
@@ -107,7 +107,7 @@ abbrev pub room : Places
 room = record { portfolios = 64; lines = 0; orders = 0; journal = 0 }
 
 abbrev pub sheet_of : ClosedSheet → List Currency → Sheet
-sheet_of c table = cash_sheet (closed-entries c table)
+sheet_of c table = cash_sheet (closed_entries c table)
 
 -- a call of the register is asked, where there is one
 abbrev pub asks : Option Register → Option History → (Register → History → History) → Option History
@@ -120,7 +120,7 @@ abbrev pub after_closing : Option Register → Option History → List Currency 
 after_closing g o table (Err x) = o
 after_closing None o table (Ok c) = Some (opened_with (sheet_of c table) room)
 after_closing (Some r) None table (Ok c) = None
-after_closing (Some r) (Some h) table (Ok c) = Some (asked h (calls.put_in_force (sheet_of c table)) (Said-Put (puts r c table)))
+after_closing (Some r) (Some h) table (Ok c) = Some (asked h (calls.put_in_force (sheet_of c table)) (said_put (puts r c table)))
 
 -- the history with what a request asks of the register, and the rules' answer
 abbrev pub next : Desk → Option History → Request → Option History
@@ -128,7 +128,7 @@ next d o (enter_currency c x) = o
 next d o put_in_force = after_closing d.register o d.drafting.table (closes d.drafting.draft d.drafting.table)
 next d o (open_portfolio p) = asks d.register o (λ r h. asked h (calls.open_portfolio p) (said (opens r p)))
 next d o (pay_in p c x) = asks d.register o (λ r h. asked h (calls.pay_in p c x) (said (pays_in r p c x)))
-next d o (pay_out p c x) = asks d.register o (λ r h. asked h (calls.pay_out p c x) (said (pays-out r p c x)))
+next d o (pay_out p c x) = asks d.register o (λ r h. asked h (calls.pay_out p c x) (said (pays_out r p c x)))
 next d o (figures p) = asks d.register o (λ r h. asked h (calls.figures p) (said_figures (tells r p)))
 
 -- the register was reached by the history, by a lawful run

@@ -43,6 +43,12 @@ impl Key for (u16, u16) {
     ghost rank = { λ k. k.0 * 2 ^ 16 + k.1 };
 
     fn compare(self, other: (u16, u16)) -> Ordering {
-        self.0.cmp(&other.0).then(self.1.cmp(&other.1))
+        if self.0 < other.0 {
+            Ordering::Less
+        } else if other.0 < self.0 {
+            Ordering::Greater
+        } else {
+            self.1.cmp(&other.1)
+        }
     }
 }

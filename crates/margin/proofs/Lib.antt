@@ -14,6 +14,3 @@ pub mod Sizes
 pub mod Places
 pub mod CashFigures
 pub mod Scans
-pub mod Reorders
-pub mod Same
-pub mod Codes

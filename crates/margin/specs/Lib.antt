@@ -8,4 +8,3 @@ pub mod Limits
 pub mod Facts
 pub mod Cash
 pub mod Keys
-pub mod Same

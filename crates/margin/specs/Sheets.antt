@@ -14,9 +14,6 @@ pub record Sheet : Type 0 where
   pub instruments : List Instrument
   pub pieces : ℕ → List Piece
 
-abbrev pub sheet_of : (ℕ → List Piece) → List Currency → List Instrument → Sheet
-sheet_of pieces cs is = record { currencies = cs; instruments = is; pieces = pieces }
-
 abbrev pub rouble : ℕ
 rouble = 643
 

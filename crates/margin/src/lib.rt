@@ -62,6 +62,5 @@ mod cash;
 mod currencies;
 pub mod facts;
 mod instruments;
-mod orders;
 
 pub use cash::{cash_figures, figures_from, in_roubles};

@@ -1,1 +1,9 @@
-mod Runs
+mod Currencies
+mod CashPlaces
+mod Store
+mod Payments
+mod SameCodes
+mod Sheets
+mod Histories
+mod Steps
+mod NewSheets

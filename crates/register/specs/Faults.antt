@@ -1,14 +1,12 @@
 -- The number, the place and the layer of each refusal.
-use Rattle.std.specs.Prelude.{◌≡◌, ℕ, cond, Ok, Err, Result, ◌==◌}
-use Rattle.ledger.specs.declared.checks.Excess.{Excess}
-use Rattle.ledger.specs.declared.checks.Excess.TheVariants.{OverGross, Worsens}
+use Rattle.std.specs.Prelude.{ℕ}
 use Rattle.sheet.specs.declared.faults.SheetFault.{SheetFault}
 use Rattle.sheet.specs.declared.faults.SheetFault.TheVariants.{Field as InField, State as OfDraft}
 use Rattle.sheet.specs.Faults as sheets
 use Rattle.register.specs.declared.faults.Layer.{Layer}
 use Rattle.register.specs.declared.faults.Layer.TheVariants.{OfField, OfSheet, OfRegister}
 use Rattle.register.specs.declared.faults.RegisterCause.{RegisterCause}
-use Rattle.register.specs.declared.faults.RegisterCause.TheVariants.{NoPortfolio, PortfolioExists, CodeMissing, NumberStands, NumberMissing, BeyondOpen, BeyondPrice, Uncovered, NoPlace, Gross, WorstCase, NoNotice, JournalFull}
+use Rattle.register.specs.declared.faults.RegisterCause.TheVariants.{NoPortfolio, PortfolioExists, CodeMissing, NoPlace, Gross, WorstCase}
 use Rattle.register.specs.declared.faults.RegisterFault.{RegisterFault}
 use Rattle.register.specs.declared.faults.RegisterFault.TheVariants.{Sheet, State}
 
@@ -16,16 +14,9 @@ abbrev pub cause_number : RegisterCause → ℕ
 cause_number NoPortfolio = 14
 cause_number PortfolioExists = 15
 cause_number CodeMissing = 16
-cause_number NumberStands = 17
-cause_number NumberMissing = 18
-cause_number BeyondOpen = 19
-cause_number BeyondPrice = 20
-cause_number Uncovered = 21
 cause_number NoPlace = 22
 cause_number Gross = 23
 cause_number WorstCase = 24
-cause_number NoNotice = 25
-cause_number JournalFull = 26
 
 abbrev pub fault_number : RegisterFault → ℕ
 fault_number (Sheet f) = sheets.sheet_number f
@@ -55,29 +46,3 @@ out_of_range = Sheet sheets.out_of_range
 
 abbrev pub refusal : RegisterCause → RegisterFault
 refusal c = State c 0
-
-abbrev pub excess_fault : Excess → RegisterFault
-excess_fault OverGross = refusal Gross
-excess_fault Worsens = refusal WorstCase
-
--- a call's refusal, by its number: 4 is the field's layer, every other the register's
-abbrev pub fault_of : ℕ → RegisterFault
-fault_of n =
-    cond (n == 4) out_of_range (
-    cond (n == 14) (refusal NoPortfolio) (
-    cond (n == 15) (refusal PortfolioExists) (
-    cond (n == 16) (refusal CodeMissing) (
-    cond (n == 17) (refusal NumberStands) (
-    cond (n == 18) (refusal NumberMissing) (
-    cond (n == 19) (refusal BeyondOpen) (
-    cond (n == 20) (refusal BeyondPrice) (
-    cond (n == 21) (refusal Uncovered) (
-    cond (n == 22) (refusal NoPlace) (
-    cond (n == 23) (refusal Gross) (
-    cond (n == 24) (refusal WorstCase) (
-    cond (n == 25) (refusal NoNotice) (refusal JournalFull)))))))))))))
-
--- the fault is the one that its number says, without a book
-abbrev pub OfCall : {X : Type 0} → Result X RegisterFault → Type 0
-OfCall (Ok x) = Unit {0}
-OfCall (Err f) = f ≡ fault_of (fault_number f)

@@ -1,5 +1,6 @@
 pub mod Faults
-pub mod Whole
+pub mod Keys
 pub mod State
+pub mod Answers
+pub mod Writes
 pub mod Runs
-pub mod Amounts

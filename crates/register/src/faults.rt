@@ -2,10 +2,9 @@
 ghost use Rattle.std.specs.Prelude.{◌≡◌};
 ghost use Rattle.sheet.specs.declared.faults.SheetFault.TheVariants.{Field as InField};
 ghost use Rattle.register.specs.declared.faults.RegisterFault.TheVariants.{Sheet as InSheet};
-ghost use Rattle.register.specs.Faults.{fault_number, fault_place, fault_layer, fault_at, refusal, excess_fault};
+ghost use Rattle.register.specs.Faults.{fault_number, fault_place, fault_layer, fault_at};
 
 use book::FieldFault;
-use ledger::Excess;
 use sheet::SheetFault;
 
 #[derive(Clone, Copy)]
@@ -16,26 +15,12 @@ pub enum RegisterCause {
     PortfolioExists,
     // the code is not in the sheet in force
     CodeMissing,
-    // an order with the number stands
-    NumberStands,
-    // no order with the number stands
-    NumberMissing,
-    // a fill beyond the open quantity
-    BeyondOpen,
-    // a fill above a buy's own price, or below a sell's
-    BeyondPrice,
-    // the cover would be negative, or a delivery exceeds it
-    Uncovered,
     // there is no free place
     NoPlace,
     // the gross would be over its limit
     Gross,
     // the worst case would be below nought and below what it is
     WorstCase,
-    // no notice is owed
-    NoNotice,
-    // the journal is full
-    JournalFull,
 }
 
 #[derive(Clone, Copy)]
@@ -68,24 +53,6 @@ impl From<FieldFault> for RegisterFault {
     }
 }
 
-impl From<Excess> for RegisterFault {
-    ghost from_gives = { λ e r. r ≡ excess_fault e };
-
-    fn from(excess: Excess) -> RegisterFault {
-        match excess {
-            Excess::OverGross => refused(RegisterCause::Gross),
-            Excess::Worsens => refused(RegisterCause::WorstCase),
-        }
-    }
-}
-
-// The fault of a call without a book.
-pub(crate) fn refused(cause: RegisterCause) -> RegisterFault
-    ensures { result ≡ refusal cause }
-{
-    RegisterFault::State { cause, place: 0 }
-}
-
 impl RegisterFault {
     pub fn number(&self) -> u8
         ensures { result ≡ fault_number self.now }
@@ -96,16 +63,9 @@ impl RegisterFault {
                 RegisterCause::NoPortfolio => 14,
                 RegisterCause::PortfolioExists => 15,
                 RegisterCause::CodeMissing => 16,
-                RegisterCause::NumberStands => 17,
-                RegisterCause::NumberMissing => 18,
-                RegisterCause::BeyondOpen => 19,
-                RegisterCause::BeyondPrice => 20,
-                RegisterCause::Uncovered => 21,
                 RegisterCause::NoPlace => 22,
                 RegisterCause::Gross => 23,
                 RegisterCause::WorstCase => 24,
-                RegisterCause::NoNotice => 25,
-                RegisterCause::JournalFull => 26,
             },
         }
     }

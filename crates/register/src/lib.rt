@@ -1,9 +1,7 @@
 // The register of client portfolios under the sheet in force.
-mod amounts;
 mod faults;
-mod papers;
+mod records;
 mod state;
 
 pub use faults::{Layer, RegisterCause, RegisterFault};
-pub use papers::Paper;
 pub use state::Register;

@@ -1,22 +1,27 @@
-// The register itself: the sheet in force, and the tables. Its type keeps the keys of every table in rising order, every
-// standing order with its line and its portfolio, and every line's code in the sheet.
-ghost use Rattle.std.specs.Prelude.{◌≡◌, false};
-ghost use Rattle.keyed.specs.Tables.{entries};
-ghost use Rattle.register.specs.Whole.{unlined, unowned, unlisted};
+// The register itself. Its type keeps the keys of its tables in rising order, and a sheet in force that closing accepted.
+ghost use Rattle.std.specs.Prelude.{◌≡◌, ◌≤◌, false, vec_len};
+ghost use Rattle.keyed.specs.Rows.{Rising};
+ghost use Rattle.keyed.specs.Tables.{Sound};
+ghost use Rattle.margin.specs.Cash.{cash_sheet};
+ghost use Rattle.margin.specs.Keys.{currency_code};
+ghost use Rattle.sheet.specs.Drafts.{incomplete};
+ghost use Rattle.register.specs.Keys.{portfolio_number};
 
-use holdings::InForce;
-use ledger::Ledger;
+use crate::records::Portfolio;
+use keyed::Table;
+use margin::Currency;
 
-pub(crate) mod accounts;
 pub(crate) mod calls;
-pub(crate) mod notices;
-pub(crate) mod trading;
+pub(crate) mod checks;
+pub(crate) mod reads;
+pub(crate) mod sheets;
 
 #[derive(Drop)]
-pub struct Register<S> {
-    pub(crate) sheet: InForce<S>,
-    pub(crate) ledger: Ledger,
-    ghost lined: { unlined (entries ledger.orders) (entries ledger.lines) ≡ false },
-    ghost owned: { unowned (entries ledger.orders) (entries ledger.portfolios) ≡ false },
-    ghost listed: { unlisted (entries ledger.lines) (entries sheet.instruments) ≡ false },
+pub struct Register {
+    pub(crate) currencies: Vec<Currency>,
+    pub(crate) portfolios: Table<Portfolio>,
+    ghost few: { vec_len currencies ≤ 8 },
+    ghost currencies_rise: { Rising currency_code currencies.items },
+    ghost complete: { incomplete (cash_sheet currencies.items) ≡ false },
+    ghost portfolios_rise: { Sound portfolio_number portfolios },
 }

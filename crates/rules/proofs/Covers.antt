@@ -11,8 +11,7 @@ use Rattle.margin.specs.Sheets.{Sheet}
 use Rattle.margin.specs.Orders.{on, sells, signed, less_filled}
 use Rattle.margin.specs.Limits.{cover, closed_to_short}
 use Rattle.rules.specs.Calls.{Call, Answer, accepted, told, given, refused, done, open_portfolio, pay_in, pay_out, deliver_in, deliver_out, place, fill, cancel, figures, take_notice, record_paper, put_back, put_in_force}
-use Rattle.rules.specs.States.{units_filled, brings}
-use Rattle.rules.specs.Histories.{state, History, asked, orders, planned, in_force, standing, holding}
+use Rattle.rules.specs.Histories.{History, asked, orders, planned, in_force, standing, units_filled, holding, brings}
 use Rattle.rules.specs.Rules.{then, Ruled, beyond_open, sells_uncovered}
 use Rattle.rules.specs.Laws.{PassesEarlier, CoverKept, OneSheet, same, more, new_sheet, Kept}
 use Rattle.margin.proofs.Integers.{not_less}
@@ -69,7 +68,7 @@ stands : (h : History) (j code : ℕ) → Kept (cover (holding h j) code) (plann
 stands h j code = level (planned h j code) _ _ (omega arith)
 
 -- an order of another portfolio or code, or a buy, leaves it; a sell leaves it nought or more
-placed : (h : History) (o : Order) (j code : ℕ) → sells_uncovered (state h) o ≡ false → closed_to_short (in_force h) code ≡ true → CoverStep h (place o) j code
+placed : (h : History) (o : Order) (j code : ℕ) → sells_uncovered h o ≡ false → closed_to_short (in_force h) code ≡ true → CoverStep h (place o) j code
 placed h o j code u s =
     by_test (mine j o)
     (λ m. by_test (on code o && sells o.side)

@@ -11,7 +11,7 @@ use Rattle.margin.specs.Sheets.{Sheet}
 use Rattle.margin.specs.Orders.{on}
 use Rattle.margin.specs.Limits.{gross, gross_limit, highest, cover, over_gross}
 use Rattle.rules.specs.Calls.{Call, accepted, told, given, refused, open_portfolio, pay_in, pay_out, deliver_in, deliver_out, place, fill, cancel, figures, take_notice, record_paper, put_back, put_in_force}
-use Rattle.rules.specs.Histories.{state, History, opened_with, asked, orders, portfolios, is_open, cash, planned, in_force, standing, line_exists, lines, holding, owner}
+use Rattle.rules.specs.Histories.{History, opened_with, asked, orders, portfolios, is_open, cash, planned, in_force, standing, line_exists, lines, holding, owner}
 use Rattle.rules.specs.Rules.{then, Ruled, gross_over}
 use Rattle.rules.specs.Laws.{PassesEarlier, GrossKept, concerns}
 use Rattle.margin.proofs.Grosses.{over_within, none_held, none_over, Within, open_on, highest_kept}
@@ -23,7 +23,7 @@ use Rattle.rules.proofs.Lines.{exact, exact_step, lines_any_of, lines_any}
 use Rattle.rules.proofs.Moments.{at_moment, passed}
 use Rattle.rules.proofs.Portfolios.{empty, no_orders}
 use Rattle.rules.proofs.Standing.{numbers_apart}
-use Rattle.rules.proofs.Untouched.{holding_left, told_left}
+use Rattle.rules.proofs.Untouched.{sheet_left, holding_left}
 
 exists_mono : (z z' : ℤ) (b b' : Bool) → nat_abs z' ≤ nat_abs z → (b' ≡ true → b ≡ true) → (not (eqb (nat_abs z') 0) || b') ≡ true → (not (eqb (nat_abs z) 0) || b) ≡ true
 exists_mono z z' b b' l f e =
@@ -96,24 +96,24 @@ closed_within h j R o =
     }
 
 -- ---- one call
-module _ (h : History) (R : Ruled h) (K : (k : ℕ) → gross_over (state h) k ≡ false) where
-  unconcerned : (c : Call) (j : ℕ) → concerns h c j ≡ false → gross_over (state (then h c)) j ≡ false
-  unconcerned c j e = told_left over_gross h c j R e ∙ K j
+module _ (h : History) (R : Ruled h) (K : (k : ℕ) → gross_over h k ≡ false) where
+  unconcerned : (c : Call) (j : ℕ) → concerns h c j ≡ false → gross_over (then h c) j ≡ false
+  unconcerned c j e = ap (λ s. over_gross s (holding (then h c) j)) (sheet_left h c j (in_force h) e) ∙ ap (over_gross (in_force h)) (holding_left h c j R e) ∙ K j
 
-  looked_at : (c : Call) (j p : ℕ) → concerns h c j ≡ eqb j p → gross_over (state (then h c)) p ≡ false → gross_over (state (then h c)) j ≡ false
-  looked_at c j p e f = by_test (eqb j p) (λ y. ap (gross_over (state (then h c))) (eqb-true j p y) ∙ f) (λ n. unconcerned c j (e ∙ n))
+  looked_at : (c : Call) (j p : ℕ) → concerns h c j ≡ eqb j p → gross_over (then h c) p ≡ false → gross_over (then h c) j ≡ false
+  looked_at c j p e f = by_test (eqb j p) (λ y. ap (gross_over (then h c)) (eqb-true j p y) ∙ f) (λ n. unconcerned c j (e ∙ n))
 
   -- a call that moves nothing
   moved_nothing : (j : ℕ) → over_gross (in_force h) (holding (then h (figures 0)) j) ≡ false
   moved_nothing j = ap (over_gross (in_force h)) (holding_left h (figures 0) j R refl) ∙ K j
 
-  in_new_sheet : (t : Sheet) (j : ℕ) → any (gross_over (state (then h (put_in_force t)))) (portfolios h) ≡ false → gross_over (state (then h (put_in_force t))) j ≡ false
+  in_new_sheet : (t : Sheet) (j : ℕ) → any (gross_over (then h (put_in_force t))) (portfolios h) ≡ false → gross_over (then h (put_in_force t)) j ≡ false
   in_new_sheet t j f =
       by_test (is_open h j)
-      (λ y. let p = any_has (eqb j) (portfolios h) y in ap (gross_over (state (then h (put_in_force t)))) (eqb-true j p.0 p.2) ∙ all-has (λ k. gross_over (state (then h (put_in_force t))) k ≡ false) (portfolios h) p.0 (none_any (gross_over (state (then h (put_in_force t)))) (portfolios h) f) p.1)
+      (λ y. let p = any_has (eqb j) (portfolios h) y in ap (gross_over (then h (put_in_force t))) (eqb-true j p.0 p.2) ∙ all-has (λ k. gross_over (then h (put_in_force t)) k ≡ false) (portfolios h) p.0 (none_any (gross_over (then h (put_in_force t))) (portfolios h) f) p.1)
       (λ n. ap (over_gross t) (holding_left h (figures 0) j R refl) ∙ over_within t (holding h j) none_held (closed_within h j R n) (none_over t))
 
-  gross_step : (c : Call) (j : ℕ) → PassesEarlier h c → gross_over (state (then h c)) j ≡ false
+  gross_step : (c : Call) (j : ℕ) → PassesEarlier h c → gross_over (then h c) j ≡ false
   gross_step (open_portfolio p) j P = moved_nothing j
   gross_step (pay_in p c x) j P = looked_at (pay_in p c x) j p refl P.1.1.1.0
   gross_step (pay_out p c x) j P = looked_at (pay_out p c x) j p refl P.1.1.1.0
@@ -128,7 +128,7 @@ module _ (h : History) (R : Ruled h) (K : (k : ℕ) → gross_over (state h) k �
   gross_step (put_back w) j P = moved_nothing j
   gross_step (put_in_force t) j P = in_new_sheet t j P.1.0
 
-pub within_limit : (h : History) → Ruled h → (j : ℕ) → gross_over (state h) j ≡ false
+pub within_limit : (h : History) → Ruled h → (j : ℕ) → gross_over h j ≡ false
 within_limit (opened_with s n) R j = none_over s
 within_limit (asked h c (refused n)) R j = within_limit h R.0 j
 within_limit (asked h c accepted) R j = gross_step h R.0 (within_limit h R.0) c j (passed h c accepted R refl)

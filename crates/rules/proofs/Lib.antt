@@ -14,7 +14,3 @@ pub mod Worst
 pub mod Refusals
 pub mod Every
 pub mod Premises
-pub mod Same
-pub mod SameMoves
-pub mod SameAnswers
-pub mod Made

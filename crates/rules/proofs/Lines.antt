@@ -1,5 +1,5 @@
 -- The lines are those that exist, each once.
-use Rattle.std.proofs.Common.{◌≡◌, ℕ, Bool, true, false, not, ◌&&◌, ◌||◌, eqb, ltb, ◌↔◌, List, [], ◌∷◌, ◌++◌, ℤ, pos, nat_abs, Some, None, filter, Option, sym, refl, ap, ◌∙◌, subst, ⊎_elim, arith}
+use Rattle.std.proofs.Common.{◌≡◌, ℕ, Bool, true, false, not, ◌&&◌, ◌||◌, eqb, ltb, ◌↔◌, List, [], ◌∷◌, ◌++◌, ℤ, pos, nat_abs, Some, None, filter, Option, sym, refl, ap, ◌∙◌, subst, arith}
 use Rattle.std.specs.List.{ContainsAt as Has, AllByRecursion as All}
 use Rattle.std.proofs.ByRecursion.{All-weaker, all-has, All-append, has_append_left, has_append_right, all_kept_by, kept_by_passes}
 use Rattle.std.proofs.lemmas.Bool.{cond_both, both_ways, eqb-true, eq-eqb, or_parts, or_right, and_parts, and_from, not-true}
@@ -8,12 +8,11 @@ use Rattle.margin.specs.Numbers.{any, the_first}
 use Rattle.margin.specs.Sheets.{Apart}
 use Rattle.margin.specs.Orders.{less_filled, less}
 use Rattle.rules.specs.Calls.{Call, accepted, told, given, refused, open_portfolio, pay_in, pay_out, deliver_in, deliver_out, place, fill, cancel, figures, take_notice, record_paper, put_back, put_in_force}
-use Rattle.rules.specs.States.{units_filled, spot_of, Spot, same_spot, reorders, codes}
-use Rattle.rules.specs.Histories.{History, opened_with, asked, orders, standing, delivers, touches, lines, line_exists, holding}
+use Rattle.rules.specs.Histories.{History, opened_with, asked, orders, standing, delivers, units_filled, touches, spot_of, Spot, same_spot, reorders, lines, line_exists, codes, holding}
 use Rattle.rules.specs.Rules.{then, Ruled}
 use Rattle.rules.specs.Laws.{OrdersSound, Once}
 use Rattle.margin.proofs.Integers.{add_nought}
-use Rattle.margin.proofs.Lists.{all_both, any_none, none_any, has_append, all_from_has, by_test, any_has, has_any, has_kept}
+use Rattle.margin.proofs.Lists.{all_from_has, by_test, any_has, has_any, has_kept}
 use Rattle.rules.proofs.Orders.{num, named, others, rest_kept}
 use Rattle.rules.proofs.Moments.{at_moment}
 use Rattle.rules.proofs.Standing.{orders_good, Good, numbers_apart}
@@ -96,17 +95,13 @@ pub exact_step : (h : History) (c : Call) → Apart num (orders h) → Exact h �
 exact_step h c a E b =
     let T : List Spot = touches h c in
     let free : Spot → Bool = λ d. not (any (same_spot d) T) in
-    let after : Spot → Bool = exists (then h c) in
-    let rest : List Spot = filter free (lines h) in
-    let left : All (λ d. (exists h d ≡ true) × (free d ≡ true)) rest =
-    all_both (λ d. exists h d ≡ true) (λ d. free d ≡ true) rest (all_kept_by free (λ d. exists h d ≡ true) (lines h) (all_from_has (λ d. exists h d ≡ true) (lines h) (λ d m. (E d).0 m))) (kept_by_passes free (lines h))
-    in (
-      λ m. ⊎_elim (all-has (λ d. after d ≡ true) (filter after T) b (kept_by_passes after T))
-          (λ k. let p = all-has (λ d. (exists h d ≡ true) × (free d ≡ true)) rest b left k in exists_left h c b a (not-true _ p.1) ∙ p.0)
-          (has_append (filter after T) rest b m),
-      λ e. by_test (any (same_spot b) T)
-          (λ y. let p = any_has (same_spot b) T y in has_append_left (filter after T) rest b (has_kept after T b (subst (Has T) (sym (spot_is b p.0 p.2)) p.1) e))
-          (λ n. has_append_right (filter after T) rest b (has_kept free (lines h) b ((E b).1 (sym (exists_left h c b a n) ∙ e)) (ap not n))),
+    let all : List Spot = T ++ filter free (lines h) in (
+      λ m. all-has (λ d. exists (then h c) d ≡ true) (filter (exists (then h c)) all) b (kept_by_passes (exists (then h c)) all) m,
+      λ e. has_kept (exists (then h c)) all b (
+          by_test (any (same_spot b) T)
+          (λ y. let p = any_has (same_spot b) T y in has_append_left T (filter free (lines h)) b (subst (Has T) (sym (spot_is b p.0 p.2)) p.1))
+          (λ n. has_append_right T (filter free (lines h)) b (has_kept free (lines h) b ((E b).1 (sym (exists_left h c b a n) ∙ e)) (ap not n)))
+          ) e,
     )
 
 pub exact : (h : History) → Ruled h → Exact h
@@ -180,16 +175,10 @@ touches_once h (record_paper w t) = tt
 touches_once h (put_back w) = tt
 touches_once h (put_in_force t) = tt
 
-any_fewer : (t p : Spot → Bool) (bs : List Spot) → any t bs ≡ false → any t (filter p bs) ≡ false
-any_fewer t p bs e = any_none t (filter p bs) (all_kept_by p (λ d. t d ≡ false) bs (none_any t bs e))
-
 once_step : (h : History) (c : Call) → Once (lines h) → Once (lines (then h c))
 once_step h c a =
-    let T : List Spot = touches h c in
-    let free : Spot → Bool = λ d. not (any (same_spot d) T) in
-    let after : Spot → Bool = exists (then h c) in
-    append_once (filter after T) (filter free (lines h)) (only_once after T (touches_once h c)) (only_once free (lines h) a)
-    (All-weaker (λ d. free d ≡ true) (λ d. any (same_spot d) (filter after T) ≡ false) (λ d e. any_fewer (same_spot d) after T (not-true _ e)) _ (kept_by_passes free (lines h)))
+    let free : Spot → Bool = λ d. not (any (same_spot d) (touches h c)) in
+    only_once _ _ (append_once (touches h c) (filter free (lines h)) (touches_once h c) (only_once free (lines h) a) (All-weaker (λ d. free d ≡ true) (λ d. any (same_spot d) (touches h c) ≡ false) (λ d e. not-true _ e) _ (kept_by_passes free (lines h))))
 
 pub lines_once : (h : History) → Once (lines h)
 lines_once (opened_with s n) = tt

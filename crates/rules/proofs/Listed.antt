@@ -7,8 +7,7 @@ use Rattle.margin.specs.declared.Order.{Order}
 use Rattle.margin.specs.Numbers.{any}
 use Rattle.margin.specs.Sheets.{currency_at, Sheet, instrument_at}
 use Rattle.rules.specs.Calls.{figures, Call, Answer, accepted, told, given, refused, open_portfolio, pay_in, pay_out, deliver_in, deliver_out, place, fill, cancel, take_notice, record_paper, put_back, put_in_force}
-use Rattle.rules.specs.States.{Spot, same_spot, spot_of}
-use Rattle.rules.specs.Histories.{state, History, opened_with, asked, orders, in_force, standing, lines, touches}
+use Rattle.rules.specs.Histories.{History, opened_with, asked, orders, in_force, standing, lines, Spot, same_spot, spot_of, touches}
 use Rattle.rules.specs.Rules.{then, Ruled, does_not_fit, currency_changed, other_currencies}
 use Rattle.rules.specs.Laws.{currency_of, CurrenciesKept, LinesSound, PassesEarlier}
 use Rattle.margin.proofs.Lists.{none_any, all_from_has, by_test, has_any}
@@ -62,7 +61,7 @@ unchanged_some (Some i) None e = absurd (both_ways true e refl)
 unchanged_some (Some i) (Some j) e = refl
 
 -- what fits has each line's code in its currency
-fits : (h : History) (t : Sheet) → Ruled h → does_not_fit (state h) t ≡ false → (b : Spot) → exists h b ≡ true → currency_changed (instrument_at (in_force h) b.code) (instrument_at t b.code) ≡ false
+fits : (h : History) (t : Sheet) → Ruled h → does_not_fit h t ≡ false → (b : Spot) → exists h b ≡ true → currency_changed (instrument_at (in_force h) b.code) (instrument_at t b.code) ≡ false
 fits h t R f b e =
     all-has (λ d. currency_changed (instrument_at (in_force h) d.code) (instrument_at t d.code) ≡ false) (lines h) b
     (none_any (λ d. currency_changed (instrument_at (in_force h) d.code) (instrument_at t d.code)) (lines h) (or_parts (other_currencies (in_force h) t) _ f).1) ((exact h R b).1 e)

@@ -4,16 +4,13 @@ use lib.Signed.{lt_z}
 use Rattle.std.proofs.lemmas.Int.{ints}
 use Rattle.std.proofs.lemmas.Bool.{and_right, and_left, and_from, eq-eqb, cond-true, both_ways}
 use Rattle.margin.specs.Numbers.{below}
-use Rattle.rules.specs.declared.records.Notice.{Notice}
-use Rattle.rules.specs.declared.records.Entry.{Entry}
-use Rattle.rules.specs.Calls.{Paper, Call, Answer, open_portfolio, pay_in, pay_out, deliver_in, deliver_out, place, fill, cancel, figures, take_notice, record_paper, put_back, put_in_force, done, accepted, told, given, refused}
-use Rattle.rules.specs.States.{fell, or_owed, enters}
-use Rattle.rules.specs.Histories.{History, opened_with, asked, portfolios, is_open, ratio_now, notice, journal}
+use Rattle.rules.specs.Calls.{Notice, Paper, Entry, Call, Answer, open_portfolio, pay_in, pay_out, deliver_in, deliver_out, place, fill, cancel, figures, take_notice, record_paper, put_back, put_in_force, done, accepted, told, given, refused}
+use Rattle.rules.specs.Histories.{fell, History, opened_with, asked, is_open, ratio_now, or_owed, notice, enters, journal}
 use Rattle.rules.specs.Rules.{then, Ruled}
 use Rattle.rules.specs.Laws.{SoundNotices, NoticesSound, NoticesTaken, NoticesPutBack, CountsFrom, JournalNumbered}
 use Rattle.margin.proofs.Integers.{less_test}
 use Rattle.rules.proofs.Moments.{at_moment}
-use Rattle.rules.proofs.Untouched.{sets_left, owed_left, owed_level, ratio_left}
+use Rattle.rules.proofs.Untouched.{sets_left, not_fallen, owed_left, ratio_left}
 
 not_below : (z : ℤ) → pos 0 ≤ℤ z → lt_z z (pos 0) ≡ false
 not_below z l = grind (arith, ints)
@@ -37,9 +34,9 @@ or_some w b m n e = rw e
 
 done_sound : (h : History) (c : Call) → SoundNotices h c accepted
 done_sound h c = record {
-  owed_at_a_fall = λ j d o n s a b. or_none _ _ _ (sets_left (portfolios h) c j (notice h j) s ∙ n) (owed h c j o a b);
-  only_at_a_fall = λ j n s f. owed_left _ _ _ (not_owed h c j f) ∙ sets_left (portfolios h) c j (notice h j) s ∙ n;
-  first_stands = λ j n e s. or_some _ _ _ _ (sets_left (portfolios h) c j (notice h j) s ∙ e);
+  owed_at_a_fall = λ j d o n s a b. or_none _ _ _ (sets_left h c j (notice h j) s ∙ n) (owed h c j o a b);
+  only_at_a_fall = λ j n s f. owed_left _ _ _ (not_owed h c j f) ∙ sets_left h c j (notice h j) s ∙ n;
+  first_stands = λ j n e s. or_some _ _ _ _ (sets_left h c j (notice h j) s ∙ e);
 }
 
 sound : (h : History) (c : Call) (a : Answer) → SoundNotices h c a
@@ -57,7 +54,9 @@ notices_sound h q c a m = sound q c a
 
 -- ---- taken, and put back
 taken : (h : History) (p : ℕ) → Ruled h → notice (then h (take_notice p)) p ≡ None
-taken h p R = owed_level _ (is_open h p) _ _ _ (ratio_left h (figures 0) p R refl) ∙ cond-true (eqb p p) _ _ (eq-eqb p p refl)
+taken h p R =
+    owed_left _ _ _ (ap (λ r. is_open h p && fell (ratio_now h p) r) (ratio_left h (figures 0) p R refl) ∙ not_fallen (is_open h p) (ratio_now h p))
+    ∙ cond-true (eqb p p) _ _ (eq-eqb p p refl)
 
 taken_by : (h : History) (p : ℕ) (a : Answer) → Ruled h → done a ≡ true → notice (asked h (take_notice p) a) p ≡ None
 taken_by h p accepted R d = taken h p R

@@ -5,14 +5,14 @@ use Rattle.std.proofs.ByRecursion.{all-has, All-weaker}
 use Rattle.std.proofs.lemmas.Bool.{and_right, cond_both, cond-false, and_left, both_ways, eqb-true, or_parts, not-false}
 use Rattle.margin.specs.Sheets.{Apart}
 use Rattle.rules.specs.Calls.{figures, Call, accepted, told, given, refused, open_portfolio, pay_in, pay_out, deliver_in, deliver_out, place, fill, cancel, take_notice, record_paper, put_back, put_in_force}
-use Rattle.rules.specs.Histories.{state, sets_notice, notice, portfolios, History, opened_with, asked, orders, is_open, cash, planned, standing, pays, delivers, owner}
+use Rattle.rules.specs.Histories.{sets_notice, notice, portfolios, History, opened_with, asked, orders, is_open, cash, planned, standing, pays, delivers, owner}
 use Rattle.rules.specs.Rules.{then, Ruled}
 use Rattle.rules.specs.Laws.{PortfoliosSound, concerns, PassesEarlier}
 use Rattle.margin.proofs.Lists.{none_any, by_test}
 use Rattle.rules.proofs.Orders.{named, mine, first_some, some_is}
 use Rattle.rules.proofs.Moments.{at_moment, passed}
 use Rattle.rules.proofs.Standing.{Good, orders_good}
-use Rattle.rules.proofs.Untouched.{owed_left, cash_unmoved, units_unmoved}
+use Rattle.rules.proofs.Untouched.{owed_left, pays_nought, delivers_nought}
 
 apart_from_open : (h : History) (j p : ℕ) → is_open h j ≡ false → is_open h p ≡ true → eqb j p ≡ false
 apart_from_open h j p c o = by_test (eqb j p) (λ e. absurd (both_ways (is_open h j) c (ap (is_open h) (eqb-true j p e) ∙ o))) (λ f. f)
@@ -33,7 +33,7 @@ abbrev Idle : History → Call → ℕ → Type 0
 Idle h c j = (k : ℕ) → (pays h c j k ≡ pos 0) × (delivers h c j k ≡ pos 0)
 
 unconcerned : (h : History) (c : Call) (j : ℕ) → concerns h c j ≡ false → Idle h c j
-unconcerned h c j e k = (cash_unmoved (state h) c j k e, units_unmoved (state h) c j k e)
+unconcerned h c j e k = (pays_nought h c j k e, delivers_nought h c j k e)
 
 pub idle : (h : History) (c : Call) (j : ℕ) → PassesEarlier h c → All (Good h) (orders h) → is_open h j ≡ false → Idle h c j
 idle h (open_portfolio p) j P a o k = (refl, refl)

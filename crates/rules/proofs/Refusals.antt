@@ -9,7 +9,7 @@ use Rattle.margin.specs.Sheets.{Sheet, Closed}
 use Rattle.margin.specs.Holdings.{Holding, first_ratio}
 use Rattle.margin.specs.Fillings.{Filling, Allowed, filled, worst}
 use Rattle.rules.specs.Calls.{Call, Answer, open_portfolio, pay_in, pay_out, deliver_in, deliver_out, place, fill, cancel, figures, take_notice, record_paper, put_back, put_in_force, accepted, refused}
-use Rattle.rules.specs.Histories.{state, History, in_force, holding}
+use Rattle.rules.specs.Histories.{History, in_force, holding}
 use Rattle.rules.specs.Rules.{margin_worsens, Check, checks, first_of, then, worst_now, Ruled}
 use Rattle.rules.specs.Laws.{PassesEarlier, SomeFillingWorsens, MarginRefusals, WorstCaseIsLeast, ClosedSheets}
 use Rattle.margin.proofs.Integers.{less_than, less_test}
@@ -49,10 +49,10 @@ worsens_is s C after old =
     )
 
 at_portfolio : (q : History) (c : Call) (a : Answer) (p : ℕ) → Closed (in_force q) →
-    checks q c ≡ filter (λ k. not (eqb 24 k.number)) (checks q c) ++ record { fails = margin_worsens (state q) c p; number = 24 } ∷ [] → a ≡ first_of (checks q c) accepted →
+    checks q c ≡ filter (λ k. not (eqb 24 k.number)) (checks q c) ++ record { fails = margin_worsens q c p; number = 24 } ∷ [] → a ≡ first_of (checks q c) accepted →
     (a ≡ refused 24) ↔ (PassesEarlier q c × SomeFillingWorsens q c p)
 at_portfolio q c a p C is e =
-    let by = last_check (checks q c) (margin_worsens (state q) c p) a is e in
+    let by = last_check (checks q c) (margin_worsens q c p) a is e in
     let w = worsens_is (in_force q) C (holding (then q c) p) (worst_now q p) in
     (λ r. let m = by.0 r in (m.0, w.0 m.1), λ m. by.1 (m.0, w.1 m.1))
 

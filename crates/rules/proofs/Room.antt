@@ -1,5 +1,5 @@
 -- No more is kept than there are places for.
-use Rattle.std.proofs.Common.{◌≡◌, ℕ, ◌+◌, ◌<◌, ◌≤◌, Bool, true, false, not, ◌||◌, eqb, ltb, ◌⊎◌, List, [], ◌∷◌, ◌++◌, length, ℤ, pos, ◌-ℤ◌, nat_abs, ◌≤ℤ◌, Some, filter, sym, refl, ap, ◌∙◌, inl, inr, ⊎_elim, arith, length-append}
+use Rattle.std.proofs.Common.{◌≡◌, ℕ, ◌+◌, ◌<◌, ◌≤◌, Bool, true, false, not, ◌||◌, eqb, ltb, ◌⊎◌, List, [], ◌∷◌, ◌++◌, length, ℤ, pos, ◌-ℤ◌, nat_abs, ◌≤ℤ◌, Some, filter, refl, ap, ◌∙◌, inl, inr, ⊎_elim, arith, length-append}
 use lib.Signed.{lt_z}
 use borrow.Author.Differences.{abs_is}
 use Rattle.std.specs.List.{ContainsAt as Has}
@@ -9,14 +9,13 @@ use Rattle.margin.specs.declared.Order.{Order}
 use Rattle.margin.specs.Numbers.{any}
 use Rattle.margin.specs.Orders.{less_filled}
 use Rattle.rules.specs.Calls.{Call, open_portfolio, pay_in, pay_out, deliver_in, deliver_out, place, fill, cancel, figures, take_notice, record_paper, put_back, put_in_force, accepted, told, given, refused}
-use Rattle.rules.specs.States.{Spot, spot_of, same_spot}
-use Rattle.rules.specs.Histories.{state, History, opened_with, asked, places, portfolios, orders, standing, planned, lines, touches, line_exists, journal}
+use Rattle.rules.specs.Histories.{History, opened_with, asked, places, portfolios, orders, standing, planned, lines, Spot, spot_of, touches, same_spot, line_exists, journal}
 use Rattle.rules.specs.Rules.{no_place_for_order, then, Ruled, no_place_for_line}
 use Rattle.rules.specs.Laws.{PassesEarlier, Placed, WithinPlaces}
 use Rattle.margin.proofs.Integers.{not_less}
 use Rattle.margin.proofs.Lists.{by_test, has_none, has_cases, has_any}
 use Rattle.rules.proofs.Orders.{named, others, some_is, first_some}
-use Rattle.rules.proofs.Lines.{lines_any, codes_any, exists, exact, at_spot, same_itself}
+use Rattle.rules.proofs.Lines.{exists, exact, at_spot, same_itself}
 use Rattle.rules.proofs.Moments.{at_moment, passed}
 
 module _ {X : Type 0} (t : X → Bool) where
@@ -44,8 +43,8 @@ module _ (h : History) (c : Call) (R : Ruled h) where
   touched : (b : Spot) → touches h c ≡ b ∷ [] → (exists h b ≡ true) ⊎ (length (lines h) < (places h).lines) → length (lines h) ≤ (places h).lines → length (lines (then h c)) ≤ (places h).lines
   touched b e w l =
       let free : Spot → Bool = λ d. not (any (same_spot d) (touches h c)) in
-      let after : length (filter (exists (then h c)) (touches h c)) ≤ length (touches h c) = kept_length (exists (then h c)) (touches h c) in
-      let sum = length-append (filter (exists (then h c)) (touches h c)) (filter free (lines h)) in
+      let after : length (lines (then h c)) ≤ length (touches h c ++ filter free (lines h)) = kept_length (exists (then h c)) (touches h c ++ filter free (lines h)) in
+      let sum : length (touches h c ++ filter free (lines h)) ≡ length (touches h c) + length (filter free (lines h)) = length-append (touches h c) (filter free (lines h)) in
       let one : length (touches h c) ≡ 1 = ap length e in
       ⊎_elim
       (λ x. let f : free b ≡ false = ap not (ap (any (same_spot b)) e ∙ or_left _ false (same_itself b)) in
@@ -56,14 +55,13 @@ module _ (h : History) (c : Call) (R : Ruled h) where
   untouched : touches h c ≡ [] → length (lines h) ≤ (places h).lines → length (lines (then h c)) ≤ (places h).lines
   untouched e l =
       let free : Spot → Bool = λ d. not (any (same_spot d) (touches h c)) in
-      let after : length (filter (exists (then h c)) (touches h c)) ≤ length (touches h c) = kept_length (exists (then h c)) (touches h c) in
-      let none : length (touches h c) ≡ 0 = ap length e in
-      let sum = length-append (filter (exists (then h c)) (touches h c)) (filter free (lines h)) in
+      let after : length (lines (then h c)) ≤ length (touches h c ++ filter free (lines h)) = kept_length (exists (then h c)) (touches h c ++ filter free (lines h)) in
+      let sum : length (touches h c ++ filter free (lines h)) ≡ length (filter free (lines h)) = ap (λ l. length (l ++ filter free (lines h))) e in
       let k : length (filter free (lines h)) ≤ length (lines h) = kept_length free (lines h) in
       omega arith
 
-line_room : (h : History) (p c : ℕ) → Ruled h → no_place_for_line (state h) p c ≡ false → (line_exists h p c ≡ true) ⊎ (length (lines h) < (places h).lines)
-line_room h p c R e = ⊎_elim (λ a. inl (sym (lines_any h R p c) ∙ codes_any p c (lines h) ∙ not-false _ a)) (λ b. inr (leb-false _ _ b)) (and_cases _ _ e)
+line_room : (h : History) (p c : ℕ) → no_place_for_line h p c ≡ false → (line_exists h p c ≡ true) ⊎ (length (lines h) < (places h).lines)
+line_room h p c e = ⊎_elim (λ a. inl (not-false _ a)) (λ b. inr (leb-false _ _ b)) (and_cases _ _ e)
 
 -- an order that stands has its line, and what can be delivered out is held
 standing_there : (h : History) (n : ℕ) (o : Order) → standing h n ≡ Some o → exists h record { portfolio = o.portfolio; code = o.code } ≡ true
@@ -77,11 +75,11 @@ held_there z n q b l e =
     or_left _ b (not_from_false _ (ne_eqb (nat_abs z) 0 (λ s. omega (arith, ints, abs_is z))))
 
 lines_step : (h : History) (c : Call) → Ruled h → PassesEarlier h c → length (lines h) ≤ (places h).lines → length (lines (then h c)) ≤ (places h).lines
-lines_step h (deliver_in p c q) R P l = touched h (deliver_in p c q) R record { portfolio = p; code = c } refl (line_room h p c R P.1.1.1.0) l
+lines_step h (deliver_in p c q) R P l = touched h (deliver_in p c q) R record { portfolio = p; code = c } refl (line_room h p c P.1.1.1.0) l
 lines_step h (deliver_out p c q) R P l =
     let some : 1 ≤ q = ltb-false q 1 (or_parts _ _ (or_parts _ _ P.0).1).0 in
     touched h (deliver_out p c q) R record { portfolio = p; code = c } refl (inl (held_there (planned h p c) _ q _ some P.1.1.1.0)) l
-lines_step h (place o) R P l = touched h (place o) R record { portfolio = o.portfolio; code = o.code } refl (line_room h o.portfolio o.code R (or_parts _ _ P.1.1.1.1.1.0).1) l
+lines_step h (place o) R P l = touched h (place o) R record { portfolio = o.portfolio; code = o.code } refl (line_room h o.portfolio o.code (or_parts _ _ P.1.1.1.1.1.0).1) l
 lines_step h (fill n q x) R P l =
     let (o, e) = some_is (standing h n) (not-false _ P.1.0) in
     touched h (fill n q x) R record { portfolio = o.portfolio; code = o.code } (ap spot_of e) (inl (standing_there h n o e)) l
@@ -102,7 +100,7 @@ module _ (h : History) (D : Placed h) where
   others_step : (c : Call) → PassesEarlier h c →
       (length (portfolios (then h c)) ≤ (places h).portfolios) × (length (orders (then h c)) ≤ (places h).orders) × (length (journal (then h c)) ≤ (places h).journal)
   others_step (open_portfolio p) P = (let k = leb-false (places h).portfolios (length (portfolios h)) P.1.1.0 in omega arith, D.orders_placed, D.journal_placed)
-  others_step (place o) P = (D.portfolios_placed, (let k = leb-false (places h).orders (length (orders h)) (or_parts (no_place_for_order (state h)) _ P.1.1.1.1.1.0).0 in omega arith), D.journal_placed)
+  others_step (place o) P = (D.portfolios_placed, (let k = leb-false (places h).orders (length (orders h)) (or_parts (no_place_for_order h) _ P.1.1.1.1.1.0).0 in omega arith), D.journal_placed)
   others_step (fill n q x) P = (D.portfolios_placed, omega (arith, less_length n q (orders h), D.orders_placed), D.journal_placed)
   others_step (cancel n) P = (D.portfolios_placed, omega (arith, kept_length (others n) (orders h), D.orders_placed), D.journal_placed)
   others_step (record_paper w t) P = (D.portfolios_placed, D.orders_placed, (let k = leb-false (places h).journal (length (journal h)) P.1.0 in let e = length-append (journal h) (record { serial = length (journal h) + 1; portfolio = w.portfolio; notice = w.notice; time = t } ∷ []) in omega arith))

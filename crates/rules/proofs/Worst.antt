@@ -9,8 +9,8 @@ use Rattle.margin.specs.Orders.{worse_than_own}
 use Rattle.margin.specs.Holdings.{Lined}
 use Rattle.margin.specs.Fillings.{worst}
 use Rattle.rules.specs.Calls.{Call, Answer, open_portfolio, pay_in, pay_out, deliver_in, deliver_out, place, cancel, figures, take_notice, record_paper, put_back, put_in_force, done, accepted, told, given, refused, fill}
-use Rattle.rules.specs.Histories.{state, History, asked, in_force, standing, line_exists, holding, owner, cash, planned, orders}
-use Rattle.rules.specs.Rules.{then, Ruled, worst_now, checks, reply_in, beyond_open, beyond_price}
+use Rattle.rules.specs.Histories.{History, asked, in_force, standing, line_exists, holding, owner, cash, planned, orders}
+use Rattle.rules.specs.Rules.{then, Ruled, worst_now, checks, reply, beyond_open, beyond_price}
 use Rattle.rules.specs.Laws.{OneSheet, same, more, new_sheet, Kept, WorstCaseKept, ClosedSheets, concerns}
 use Rattle.margin.proofs.Fills.{fill_never_lowers}
 use Rattle.margin.proofs.Lists.{by_test, kept_swap}
@@ -99,9 +99,9 @@ module _ (h : History) (C : Closed (in_force h)) (R : Ruled h) (j : ℕ) where
 
 one_step : (h : History) (c : Call) (a : Answer) → ClosedSheets (asked h c a) → Ruled (asked h c a) → new_sheet c a ≡ false → (j : ℕ) → Kept (worst_now h j) (worst_now (asked h c a) j)
 one_step h c (refused n) C R N j = kept_equal _ _ refl
-one_step h c accepted C R N j = step_done h (closed_now h C.0) R.0 j c accepted refl N (passes (checks h c) (reply_in (state h) c) accepted R.1 refl)
-one_step h c (told f) C R N j = step_done h (closed_now h C.0) R.0 j c (told f) refl N (passes (checks h c) (reply_in (state h) c) (told f) R.1 refl)
-one_step h c (given w) C R N j = step_done h (closed_now h C.0) R.0 j c (given w) refl N (passes (checks h c) (reply_in (state h) c) (given w) R.1 refl)
+one_step h c accepted C R N j = step_done h (closed_now h C.0) R.0 j c accepted refl N (passes (checks h c) (reply h c) accepted R.1 refl)
+one_step h c (told f) C R N j = step_done h (closed_now h C.0) R.0 j c (told f) refl N (passes (checks h c) (reply h c) (told f) R.1 refl)
+one_step h c (given w) C R N j = step_done h (closed_now h C.0) R.0 j c (given w) refl N (passes (checks h c) (reply h c) (given w) R.1 refl)
 
 between : (p : History) {q : History} → OneSheet p q → ClosedSheets q → Ruled q → (j : ℕ) → Kept (worst_now p j) (worst_now q j)
 between p same C R j = kept_equal _ _ refl

@@ -3,8 +3,7 @@ use Rattle.std.specs.Prelude.{◌≡◌, ℕ, cond, List, [], ◌∷◌, map, po
 use Rattle.margin.specs.declared.Kind.TheVariants.{Shortable, OffList}
 use Rattle.margin.specs.declared.Piece.{Piece}
 use Rattle.margin.specs.Sheets.{Sheet}
-use Rattle.rules.specs.declared.records.Entry.{Entry}
-use Rattle.rules.specs.Calls.{put_back, Call, Answer, open_portfolio, pay_in, pay_out, deliver_in, deliver_out, fill, cancel, figures, take_notice, record_paper, put_in_force, accepted, given, refused}
+use Rattle.rules.specs.Calls.{Entry, put_back, Call, Answer, open_portfolio, pay_in, pay_out, deliver_in, deliver_out, fill, cancel, figures, take_notice, record_paper, put_in_force, accepted, given, refused}
 use Rattle.rules.specs.Histories.{opened_with, journal, History, asked}
 use Rattle.rules.specs.Rules.{ruled}
 use Rattle.rules.specs.Samples.{stepped, instrument, posted_sheet, sheet, opened, minus, paper, tells, roubles, dollars, buy, sell}

@@ -1,14 +1,25 @@
 -- What is asked of a register, and what it answers.
-use Rattle.std.specs.Prelude.{ℕ, Bool, true, false}
+use Rattle.std.specs.Prelude.{ℕ, Bool, true, false, ℤ}
 use Rattle.margin.specs.declared.Figures.{Figures}
 use Rattle.margin.specs.declared.Order.{Order}
 use Rattle.margin.specs.Sheets.{Sheet}
-use Rattle.rules.specs.declared.records.Notice.{Notice}
+
+-- the figures of a notice, at the moment the first ratio fell below nought
+pub record Notice : Type 0 where
+  pub value : ℤ
+  pub initial : ℤ
+  pub minimum : ℤ
 
 -- a notice taken from the register, to be recorded or put back
 pub record Paper : Type 0 where
   pub portfolio : ℕ
   pub notice : Notice
+
+pub record Entry : Type 0 where
+  pub serial : ℕ
+  pub portfolio : ℕ
+  pub notice : Notice
+  pub time : ℕ
 
 pub data Call : Type 0 where
   open_portfolio : ℕ → Call

@@ -7,11 +7,8 @@ use Rattle.margin.specs.Holdings.{Holding, first_ratio}
 use Rattle.margin.specs.Fillings.{Filling, Allowed, filled, WorstCase}
 use Rattle.margin.specs.Figures.{figures_of}
 use Rattle.margin.specs.Limits.{gross, gross_limit, cover, closed_to_short}
-use Rattle.rules.specs.declared.records.Notice.{Notice}
-use Rattle.rules.specs.declared.records.Entry.{Entry}
-use Rattle.rules.specs.Calls.{Paper, Call, Answer, open_portfolio, pay_in, pay_out, deliver_in, deliver_out, place, fill, cancel, figures, take_notice, record_paper, put_back, put_in_force, done, refused}
-use Rattle.rules.specs.States.{Spot, State, order_in, same_spot}
-use Rattle.rules.specs.Histories.{History, opened_with, asked, state, places, in_force, portfolios, is_open, owner, orders, cash, planned, lines, line_exists, holding, ratio_now, notice_now, notice, journal}
+use Rattle.rules.specs.Calls.{Paper, Notice, Entry, Call, Answer, open_portfolio, pay_in, pay_out, deliver_in, deliver_out, place, fill, cancel, figures, take_notice, record_paper, put_back, put_in_force, done, refused}
+use Rattle.rules.specs.Histories.{History, opened_with, asked, places, in_force, portfolios, is_open, owner, standing, orders, cash, planned, lines, Spot, same_spot, line_exists, holding, ratio_now, notice_now, notice, journal}
 use Rattle.rules.specs.Rules.{checks, then, worst_now, Ruled}
 
 -- ---- moments
@@ -110,23 +107,20 @@ pub record Unchanged (p q : History) (j : ℕ) : Type 0 where
   pub same_notice : notice q j ≡ notice p j
 
 -- the call is for portfolio j, or for all
-abbrev pub concerns_in : State → Call → ℕ → Bool
-concerns_in s (open_portfolio p) j = j == p
-concerns_in s (pay_in p c x) j = j == p
-concerns_in s (pay_out p c x) j = j == p
-concerns_in s (deliver_in p c q) j = j == p
-concerns_in s (deliver_out p c q) j = j == p
-concerns_in s (place o) j = j == o.portfolio
-concerns_in s (fill n q x) j = j == owner (order_in s.orders n)
-concerns_in s (cancel n) j = j == owner (order_in s.orders n)
-concerns_in s (figures p) j = false
-concerns_in s (take_notice p) j = j == p
-concerns_in s (record_paper w t) j = false
-concerns_in s (put_back w) j = j == w.portfolio
-concerns_in s (put_in_force t) j = true
-
 abbrev pub concerns : History → Call → ℕ → Bool
-concerns h c j = concerns_in (state h) c j
+concerns h (open_portfolio p) j = j == p
+concerns h (pay_in p c x) j = j == p
+concerns h (pay_out p c x) j = j == p
+concerns h (deliver_in p c q) j = j == p
+concerns h (deliver_out p c q) j = j == p
+concerns h (place o) j = j == o.portfolio
+concerns h (fill n q x) j = j == owner (standing h n)
+concerns h (cancel n) j = j == owner (standing h n)
+concerns h (figures p) j = false
+concerns h (take_notice p) j = j == p
+concerns h (record_paper w t) j = false
+concerns h (put_back w) j = j == w.portfolio
+concerns h (put_in_force t) j = true
 
 -- a call for one portfolio leaves all others unchanged
 abbrev pub OthersUntouched : History → Type 0

@@ -1,6 +1,4 @@
-pub mod Keys
 pub mod Calls
-pub mod States
 pub mod Histories
 pub mod Rules
 pub mod Laws
@@ -8,4 +6,3 @@ pub mod Samples
 pub mod Worked
 pub mod Books
 pub mod Premises
-pub mod Same

@@ -9,10 +9,8 @@ use Rattle.margin.specs.Orders.{sells, worse_than_own}
 use Rattle.margin.specs.Fillings.{worst}
 use Rattle.margin.specs.Figures.{figures_of}
 use Rattle.margin.specs.Limits.{cover, closed_to_short, over_gross, worsens}
-use Rattle.rules.specs.declared.records.Notice.{Notice}
-use Rattle.rules.specs.Calls.{Call, Answer, open_portfolio, pay_in, pay_out, deliver_in, deliver_out, place, cancel, figures, take_notice, record_paper, put_back, put_in_force, accepted, told, given, refused, fill}
-use Rattle.rules.specs.States.{State, same_spot, is_among, order_in, holding_in, moved}
-use Rattle.rules.specs.Histories.{History, opened_with, asked, in_force, holding, state, owner}
+use Rattle.rules.specs.Calls.{Notice, Call, Answer, open_portfolio, pay_in, pay_out, deliver_in, deliver_out, place, cancel, figures, take_notice, record_paper, put_back, put_in_force, accepted, told, given, refused, fill}
+use Rattle.rules.specs.Histories.{notice, History, opened_with, asked, places, in_force, portfolios, is_open, standing, owner, line_exists, holding, journal, lines, orders}
 
 pub record Check : Type 0 where
   pub fails : Bool
@@ -25,7 +23,10 @@ abbrev pub first_of : List Check → Answer → Answer
 first_of [] a = a
 first_of (c ∷ cs) a = cond c.fails (refused c.number) (first_of cs a)
 
--- ---- conditions, each on what there is before the call
+-- ---- conditions, each on what the history says; `then` is the history as it would be if the call were accepted
+abbrev pub then : History → Call → History
+then h c = asked h c accepted
+
 -- 13: the sheet does not fit the register: other currencies, or a code with a line missing or in another currency
 abbrev pub other_currencies : Sheet → Sheet → Bool
 other_currencies s t = any (λ c. not (is_some (currency_at t c.code))) s.currencies || any (λ c. not (is_some (currency_at s c.code))) t.currencies
@@ -35,31 +36,31 @@ currency_changed None j = true
 currency_changed (Some i) None = true
 currency_changed (Some i) (Some j) = not (i.currency == j.currency)
 
-abbrev pub does_not_fit : State → Sheet → Bool
-does_not_fit s t =
-    other_currencies s.sheet t
-    || any (λ b. currency_changed (instrument_at s.sheet b.code) (instrument_at t b.code)) s.lines
+abbrev pub does_not_fit : History → Sheet → Bool
+does_not_fit h t =
+    other_currencies (in_force h) t
+    || any (λ b. currency_changed (instrument_at (in_force h) b.code) (instrument_at t b.code)) (lines h)
 
 -- 14 and 15
-abbrev pub no_such_portfolio : State → ℕ → Bool
-no_such_portfolio s p = not (is_among s.portfolios p)
+abbrev pub no_such_portfolio : History → ℕ → Bool
+no_such_portfolio h p = not (is_open h p)
 
-abbrev pub exists_already : State → ℕ → Bool
-exists_already s p = is_among s.portfolios p
+abbrev pub exists_already : History → ℕ → Bool
+exists_already h p = is_open h p
 
 -- 16
-abbrev pub currency_missing : State → ℕ → Bool
-currency_missing s c = not (is_some (currency_at s.sheet c))
+abbrev pub currency_missing : History → ℕ → Bool
+currency_missing h c = not (is_some (currency_at (in_force h) c))
 
-abbrev pub instrument_missing : State → ℕ → Bool
-instrument_missing s c = not (is_some (instrument_at s.sheet c))
+abbrev pub instrument_missing : History → ℕ → Bool
+instrument_missing h c = not (is_some (instrument_at (in_force h) c))
 
 -- 17 and 18
-abbrev pub number_stands : State → ℕ → Bool
-number_stands s n = is_some (order_in s.orders n)
+abbrev pub number_stands : History → ℕ → Bool
+number_stands h n = is_some (standing h n)
 
-abbrev pub number_stands_not : State → ℕ → Bool
-number_stands_not s n = not (is_some (order_in s.orders n))
+abbrev pub number_stands_not : History → ℕ → Bool
+number_stands_not h n = not (is_some (standing h n))
 
 -- 19: more than the order is open for
 abbrev pub beyond_open : Option Order → ℕ → Bool
@@ -72,128 +73,117 @@ beyond_price None x = false
 beyond_price (Some o) x = worse_than_own o x
 
 -- 21: a sell where short sale is closed leaves the cover negative, itself among the sells; a delivery out exceeds the cover
-abbrev pub sells_uncovered : State → Order → Bool
-sells_uncovered s o = sells o.side && closed_to_short s.sheet o.code && below (cover (holding_in (moved s (place o)) o.portfolio) o.code) (pos 0)
+abbrev pub sells_uncovered : History → Order → Bool
+sells_uncovered h o = sells o.side && closed_to_short (in_force h) o.code && below (cover (holding (then h (place o)) o.portfolio) o.code) (pos 0)
 
-abbrev pub beyond_cover : State → ℕ → ℕ → ℕ → Bool
-beyond_cover s p c q = below (cover (holding_in s p) c) (pos q)
+abbrev pub beyond_cover : History → ℕ → ℕ → ℕ → Bool
+beyond_cover h p c q = below (cover (holding h p) c) (pos q)
 
 -- 22: no free place; a line needs one only where it is new
-abbrev pub no_place_for_portfolio : State → Bool
-no_place_for_portfolio s = nat_le s.places.portfolios (length s.portfolios)
+abbrev pub no_place_for_portfolio : History → Bool
+no_place_for_portfolio h = nat_le (places h).portfolios (length (portfolios h))
 
-abbrev pub no_place_for_line : State → ℕ → ℕ → Bool
-no_place_for_line s p c = not (any (same_spot record { portfolio = p; code = c }) s.lines) && nat_le s.places.lines (length s.lines)
+abbrev pub no_place_for_line : History → ℕ → ℕ → Bool
+no_place_for_line h p c = not (line_exists h p c) && nat_le (places h).lines (length (lines h))
 
-abbrev pub no_place_for_order : State → Bool
-no_place_for_order s = nat_le s.places.orders (length s.orders)
+abbrev pub no_place_for_order : History → Bool
+no_place_for_order h = nat_le (places h).orders (length (orders h))
 
 -- 23: the gross of a portfolio over its limit, in some currency of the sheet in force
-abbrev pub gross_over : State → ℕ → Bool
-gross_over s p = over_gross s.sheet (holding_in s p)
+abbrev pub gross_over : History → ℕ → Bool
+gross_over h p = over_gross (in_force h) (holding h p)
 
 -- 24: the worst case afterwards below nought, and below the one before
-abbrev pub margin_worsens : State → Call → ℕ → Bool
-margin_worsens s c p = worsens s.sheet (holding_in s p) (holding_in (moved s c) p)
+abbrev pub worst_now : History → ℕ → ℤ
+worst_now h p = worst (in_force h) (holding h p)
+
+abbrev pub margin_worsens : History → Call → ℕ → Bool
+margin_worsens h c p = worsens (in_force h) (holding h p) (holding (then h c) p)
 
 -- 25 and 26
-abbrev pub no_notice_owed : State → ℕ → Bool
-no_notice_owed s p = not (is_some (s.notice p))
+abbrev pub no_notice_owed : History → ℕ → Bool
+no_notice_owed h p = not (is_some (notice h p))
 
-abbrev pub journal_full : State → Bool
-journal_full s = nat_le s.places.journal (length s.journal)
+abbrev pub journal_full : History → Bool
+journal_full h = nat_le (places h).journal (length (journal h))
 
 -- ---- the checks of each call, in order
-abbrev pub checks_in : State → Call → List Check
-checks_in s (open_portfolio p) = check (no_portfolio p) 4 ∷ check (exists_already s p) 15 ∷ check (no_place_for_portfolio s) 22 ∷ []
-checks_in s (pay_in p c x) =
+abbrev pub checks : History → Call → List Check
+checks h (open_portfolio p) = check (no_portfolio p) 4 ∷ check (exists_already h p) 15 ∷ check (no_place_for_portfolio h) 22 ∷ []
+checks h (pay_in p c x) =
     check (no_portfolio p || no_currency c || no_amount x) 4
-    ∷ check (no_such_portfolio s p) 14
-    ∷ check (currency_missing s c) 16
-    ∷ check (gross_over (moved s (pay_in p c x)) p) 23
+    ∷ check (no_such_portfolio h p) 14
+    ∷ check (currency_missing h c) 16
+    ∷ check (gross_over (then h (pay_in p c x)) p) 23
     ∷ []
-checks_in s (pay_out p c x) =
+checks h (pay_out p c x) =
     check (no_portfolio p || no_currency c || no_amount x) 4
-    ∷ check (no_such_portfolio s p) 14
-    ∷ check (currency_missing s c) 16
-    ∷ check (gross_over (moved s (pay_out p c x)) p) 23
-    ∷ check (margin_worsens s (pay_out p c x) p) 24
+    ∷ check (no_such_portfolio h p) 14
+    ∷ check (currency_missing h c) 16
+    ∷ check (gross_over (then h (pay_out p c x)) p) 23
+    ∷ check (margin_worsens h (pay_out p c x) p) 24
     ∷ []
-checks_in s (deliver_in p c q) =
+checks h (deliver_in p c q) =
     check (no_portfolio p || no_code c || no_quantity q) 4
-    ∷ check (no_such_portfolio s p) 14
-    ∷ check (instrument_missing s c) 16
-    ∷ check (no_place_for_line s p c) 22
-    ∷ check (gross_over (moved s (deliver_in p c q)) p) 23
+    ∷ check (no_such_portfolio h p) 14
+    ∷ check (instrument_missing h c) 16
+    ∷ check (no_place_for_line h p c) 22
+    ∷ check (gross_over (then h (deliver_in p c q)) p) 23
     ∷ []
-checks_in s (deliver_out p c q) =
+checks h (deliver_out p c q) =
     check (no_portfolio p || no_code c || no_quantity q) 4
-    ∷ check (no_such_portfolio s p) 14
-    ∷ check (instrument_missing s c) 16
-    ∷ check (beyond_cover s p c q) 21
-    ∷ check (margin_worsens s (deliver_out p c q) p) 24
+    ∷ check (no_such_portfolio h p) 14
+    ∷ check (instrument_missing h c) 16
+    ∷ check (beyond_cover h p c q) 21
+    ∷ check (margin_worsens h (deliver_out p c q) p) 24
     ∷ []
-checks_in s (place o) =
+checks h (place o) =
     check (no_portfolio o.portfolio || no_number o.number || no_code o.code || no_quantity o.left || no_quantity o.price) 4
-    ∷ check (no_such_portfolio s o.portfolio) 14
-    ∷ check (instrument_missing s o.code) 16
-    ∷ check (number_stands s o.number) 17
-    ∷ check (sells_uncovered s o) 21
-    ∷ check (no_place_for_order s || no_place_for_line s o.portfolio o.code) 22
-    ∷ check (gross_over (moved s (place o)) o.portfolio) 23
-    ∷ check (margin_worsens s (place o) o.portfolio) 24
+    ∷ check (no_such_portfolio h o.portfolio) 14
+    ∷ check (instrument_missing h o.code) 16
+    ∷ check (number_stands h o.number) 17
+    ∷ check (sells_uncovered h o) 21
+    ∷ check (no_place_for_order h || no_place_for_line h o.portfolio o.code) 22
+    ∷ check (gross_over (then h (place o)) o.portfolio) 23
+    ∷ check (margin_worsens h (place o) o.portfolio) 24
     ∷ []
-checks_in s (fill n q x) =
+checks h (fill n q x) =
     check (no_number n || no_quantity q || no_quantity x) 4
-    ∷ check (number_stands_not s n) 18
-    ∷ check (beyond_open (order_in s.orders n) q) 19
-    ∷ check (beyond_price (order_in s.orders n) x) 20
-    ∷ check (gross_over (moved s (fill n q x)) (owner (order_in s.orders n))) 23
+    ∷ check (number_stands_not h n) 18
+    ∷ check (beyond_open (standing h n) q) 19
+    ∷ check (beyond_price (standing h n) x) 20
+    ∷ check (gross_over (then h (fill n q x)) (owner (standing h n))) 23
     ∷ []
-checks_in s (cancel n) = check (no_number n) 4 ∷ check (number_stands_not s n) 18 ∷ []
-checks_in s (figures p) = check (no_portfolio p) 4 ∷ check (no_such_portfolio s p) 14 ∷ []
-checks_in s (take_notice p) = check (no_portfolio p) 4 ∷ check (no_such_portfolio s p) 14 ∷ check (no_notice_owed s p) 25 ∷ []
-checks_in s (record_paper w t) = check (no_such_portfolio s w.portfolio) 14 ∷ check (journal_full s) 26 ∷ []
-checks_in s (put_back w) = []
-checks_in s (put_in_force t) = check (does_not_fit s t) 13 ∷ check (any (gross_over (moved s (put_in_force t))) s.portfolios) 23 ∷ []
+checks h (cancel n) = check (no_number n) 4 ∷ check (number_stands_not h n) 18 ∷ []
+checks h (figures p) = check (no_portfolio p) 4 ∷ check (no_such_portfolio h p) 14 ∷ []
+checks h (take_notice p) = check (no_portfolio p) 4 ∷ check (no_such_portfolio h p) 14 ∷ check (no_notice_owed h p) 25 ∷ []
+checks h (record_paper w t) = check (no_such_portfolio h w.portfolio) 14 ∷ check (journal_full h) 26 ∷ []
+checks h (put_back w) = []
+checks h (put_in_force t) = check (does_not_fit h t) 13 ∷ check (any (gross_over (then h (put_in_force t))) (portfolios h)) 23 ∷ []
 
 -- ---- what is answered where none fails: figures, a paper, or that it is done
 abbrev pub paper_of : ℕ → Option Notice → Answer
 paper_of p None = accepted
 paper_of p (Some n) = given record { portfolio = p; notice = n }
 
-abbrev pub reply_in : State → Call → Answer
-reply_in s (figures p) = told (figures_of s.sheet (holding_in s p))
-reply_in s (take_notice p) = paper_of p (s.notice p)
-reply_in s (open_portfolio p) = accepted
-reply_in s (pay_in p c x) = accepted
-reply_in s (pay_out p c x) = accepted
-reply_in s (deliver_in p c q) = accepted
-reply_in s (deliver_out p c q) = accepted
-reply_in s (place o) = accepted
-reply_in s (fill n q x) = accepted
-reply_in s (cancel n) = accepted
-reply_in s (record_paper w t) = accepted
-reply_in s (put_back w) = accepted
-reply_in s (put_in_force t) = accepted
+abbrev pub reply : History → Call → Answer
+reply h (figures p) = told (figures_of (in_force h) (holding h p))
+reply h (take_notice p) = paper_of p (notice h p)
+reply h (open_portfolio p) = accepted
+reply h (pay_in p c x) = accepted
+reply h (pay_out p c x) = accepted
+reply h (deliver_in p c q) = accepted
+reply h (deliver_out p c q) = accepted
+reply h (place o) = accepted
+reply h (fill n q x) = accepted
+reply h (cancel n) = accepted
+reply h (record_paper w t) = accepted
+reply h (put_back w) = accepted
+reply h (put_in_force t) = accepted
 
-abbrev pub ruled_in : State → Call → Answer
-ruled_in s c = first_of (checks_in s c) (reply_in s c)
-
--- ---- after a history
-abbrev pub checks : History → Call → List Check
-checks h c = checks_in (state h) c
-
--- the answer to a call
+-- the answer to a call after a history
 abbrev pub ruled : History → Call → Answer
-ruled h c = ruled_in (state h) c
-
--- the history as it would be if the call were accepted
-abbrev pub then : History → Call → History
-then h c = asked h c accepted
-
-abbrev pub worst_now : History → ℕ → ℤ
-worst_now h p = worst (in_force h) (holding h p)
+ruled h c = first_of (checks h c) (reply h c)
 
 -- each answer was the one that the rules give
 abbrev pub Ruled : History → Type 0

@@ -1,12 +1,7 @@
 ghost use Rattle.rules.specs.Books.{BooksAnswered};
 ghost use Rattle.rules.specs.Laws.{EveryRunIsLawful};
 ghost use Rattle.rules.specs.Premises.{PremisesAreMet};
-ghost use Rattle.rules.specs.Same.{OrderOfListingChangesNoAnswer};
 ghost use Rattle.rules.specs.Worked.{WorkedFigures};
-
-mod records;
-
-pub use records::{Entry, Notice};
 
 // The worked figures, each computed from the definitions.
 pub fn worked_figures_hold() -> u8
@@ -32,13 +27,6 @@ pub fn every_run_is_lawful() -> u8
 // Such histories there are: a book of orders, fills, notices and new sheets is one.
 pub fn premises_are_met() -> u8
     ensures { PremisesAreMet }
-{
-    0
-}
-
-// The order in which portfolios, lines and orders are listed changes no answer, and nothing of what a call makes but that order.
-pub fn listing_changes_no_answer() -> u8
-    ensures { OrderOfListingChangesNoAnswer }
 {
     0
 }

@@ -1,5 +1,2 @@
-mod Insertions
-mod Prices
-mod Turns
+mod Entering
 mod Closing
-pub mod ClosedSheets

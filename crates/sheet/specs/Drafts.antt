@@ -1,63 +1,80 @@
--- What a draft and a closed sheet say of the tables that go with them, and of the source of rates.
-use Rattle.std.specs.Prelude.{◌≡◌, ℕ, min, false, ◌||◌, List, [], ◌∷◌, length, take, Result}
+-- What a draft and a closed sheet say of the tables that go with them.
+use Rattle.std.specs.Prelude.{◌≡◌, ℕ, ◌+◌, ◌≤◌, min, Bool, false, cond, not, ◌&&◌, ◌||◌, List, [], ◌∷◌, length, take, drop, is_some, Ok, Err, Result, ◌==◌, nat_le}
 use Rattle.book.specs.Checks.{check, first_of}
-use Rattle.book.specs.Ranges.{no_currency, no_code, no_quantity, no_fx}
+use Rattle.book.specs.Ranges.{no_currency, no_fx}
+use Rattle.keyed.specs.Rows.{Rising, lookup, with_row}
 use Rattle.margin.specs.declared.Currency.{Currency}
-use Rattle.margin.specs.declared.Instrument.{Instrument}
-use Rattle.margin.specs.declared.Piece.{Piece}
-use Rattle.margin.specs.Keys.{currency_code, instrument_code}
-use Rattle.margin.specs.Sheets.{Sheet, sheet_of}
+use Rattle.margin.specs.Keys.{currency_code}
+use Rattle.margin.specs.Numbers.{any}
+use Rattle.margin.specs.Sheets.{Sheet, rouble, known}
+use Rattle.margin.specs.Cash.{cash_sheet}
 use Rattle.sheet.specs.declared.drafts.ClosedSheet.{ClosedSheet}
 use Rattle.sheet.specs.declared.drafts.Draft.{Draft}
-use Rattle.sheet.specs.declared.faults.SheetCause.TheVariants.{Incomplete, Allowance}
+use Rattle.sheet.specs.declared.faults.SheetCause.TheVariants.{Entered, Full, Incomplete}
 use Rattle.sheet.specs.declared.faults.SheetFault.{SheetFault}
 use Rattle.sheet.specs.Faults.{out_of_range, refusal}
-use Rattle.sheet.specs.Entries.{CurrenciesInOrder, Priced, InstrumentsInOrder, entry_checks, EnteredIn}
-use Rattle.sheet.specs.Closing.{incomplete, allowance_over}
 
--- the tables are as the draft's own entering left them
-pub record InOrder (d : Draft) (cs : List Currency) (is : List Instrument) : Type 0 where
-  pub currencies : CurrenciesInOrder d.currencies cs
-  pub instruments : InstrumentsInOrder d.instruments is
+-- the entries of a draft: the first places of the table that goes with it
+abbrev pub entries : Draft → List Currency → List Currency
+entries d table = take d.currencies table
 
--- ---- entering
-abbrev pub enters_currency : Draft → List Currency → ℕ → ℕ → Result (Unit {0}) SheetFault
-enters_currency d cs code fx = first_of (check (no_currency code || no_fx fx) out_of_range ∷ entry_checks currency_code 8 d.currencies cs code) tt
+-- the table is as the draft's own entering left it
+pub record InOrder (d : Draft) (table : List Currency) : Type 0 where
+  pub within : d.currencies ≤ length table
+  pub few : d.currencies ≤ 8
+  pub rising : Rising currency_code (entries d table)
 
-pub record EnteredCurrency (d : Draft) (cs : List Currency) (code fx : ℕ) (d' : Draft) (cs' : List Currency) : Type 0 where
-  pub entered : EnteredIn currency_code 8 d.currencies cs (record { code = code; fx = fx }) d'.currencies cs'
-  pub instruments : d'.instruments ≡ d.instruments
+-- ---- entering a currency
+-- a sheet has at most 8 currencies, and no more than the table has places
+abbrev pub most : List Currency → ℕ
+most table = min 8 (length table)
 
-abbrev pub enters_instrument : Draft → List Instrument → Instrument → Result (Unit {0}) SheetFault
-enters_instrument d is i =
-    first_of (check (no_code i.code || no_currency i.currency || no_quantity i.price) out_of_range ∷ entry_checks instrument_code 256 d.instruments is i.code) tt
+abbrev pub enters : Draft → List Currency → ℕ → ℕ → Result (Unit {0}) SheetFault
+enters d table code fx =
+    first_of (
+    check (no_currency code || no_fx fx) out_of_range
+    ∷ check (is_some (lookup currency_code (entries d table) code)) (refusal Entered)
+    ∷ check (nat_le (most table) d.currencies) (refusal Full)
+    ∷ []) tt
 
-pub record EnteredInstrument (d : Draft) (is : List Instrument) (i : Instrument) (d' : Draft) (is' : List Instrument) : Type 0 where
-  pub entered : EnteredIn instrument_code 256 d.instruments is i d'.instruments is'
-  pub priced : Priced (take d'.instruments is')
-  pub currencies : d'.currencies ≡ d.currencies
+-- the entry is in, in the order of codes; the places after the entries are as they were
+pub record EnteredIn (d : Draft) (table : List Currency) (code fx : ℕ) (d' : Draft) (table' : List Currency) : Type 0 where
+  pub count : d'.currencies ≡ d.currencies + 1
+  pub in_order : InOrder d' table'
+  pub entries : entries d' table' ≡ with_row currency_code (entries d table) (record { code = code; fx = fx })
+  pub free : drop d'.currencies table' ≡ drop d'.currencies table
 
 -- ---- closing
-module _ (pieces : ℕ → List Piece) where
-  -- the sheet of a draft's entries
-  abbrev pub draft_sheet : Draft → List Currency → List Instrument → Sheet
-  draft_sheet d cs is = sheet_of pieces (take d.currencies cs) (take d.instruments is)
+abbrev pub at_par : Currency → Bool
+at_par c = c.code == rouble && c.fx == 10000
 
-  -- the closed sheet has the draft's entries; a refused draft comes back
-  abbrev pub closes : Draft → List Currency → List Instrument → Result ClosedSheet (SheetFault × Draft)
-  closes d cs is =
-      first_of (
-      check (incomplete (draft_sheet d cs is)) (refusal Incomplete, d)
-      ∷ check (allowance_over (draft_sheet d cs is)) (refusal Allowance, d)
-      ∷ []) (record { currencies = min d.currencies (length cs); instruments = min d.instruments (length is) })
+abbrev pub has_rouble_at_par : Sheet → Bool
+has_rouble_at_par s = any at_par s.currencies
 
-  -- ---- closed
-  abbrev pub closed_sheet : ClosedSheet → List Currency → List Instrument → Sheet
-  closed_sheet c cs is = sheet_of pieces (take c.currencies cs) (take c.instruments is)
+-- a currency other than the rouble without pieces
+abbrev pub unrated : Sheet → Currency → Bool
+unrated s c = not (c.code == rouble || known s c.code)
 
-  -- the tables and the source are as closing left them: such as closing accepts, with these numbers
-  pub record AsClosed (c : ClosedSheet) (cs : List Currency) (is : List Instrument) : Type 0 where
-    pub currencies : CurrenciesInOrder c.currencies cs
-    pub instruments : InstrumentsInOrder c.instruments is
-    pub complete : incomplete (closed_sheet c cs is) ≡ false
-    pub bounded : allowance_over (closed_sheet c cs is) ≡ false
+abbrev pub has_unrated : Sheet → Bool
+has_unrated s = any (unrated s) s.currencies
+
+abbrev pub incomplete : Sheet → Bool
+incomplete s = not (has_rouble_at_par s) || has_unrated s
+
+abbrev pub draft_sheet : Draft → List Currency → Sheet
+draft_sheet d table = cash_sheet (entries d table)
+
+-- the closed sheet has the draft's entries; a refused draft comes back
+abbrev pub closes : Draft → List Currency → Result ClosedSheet (SheetFault × Draft)
+closes d table = cond (incomplete (draft_sheet d table)) (Err (refusal Incomplete, d)) (Ok (record { currencies = min d.currencies (length table) }))
+
+-- ---- closed
+abbrev pub closed_entries : ClosedSheet → List Currency → List Currency
+closed_entries c table = take c.currencies table
+
+-- the table is as closing left it: one that closing accepts, with these numbers
+pub record AsClosed (c : ClosedSheet) (table : List Currency) : Type 0 where
+  pub within : c.currencies ≤ length table
+  pub few : c.currencies ≤ 8
+  pub rising : Rising currency_code (closed_entries c table)
+  pub complete : incomplete (cash_sheet (closed_entries c table)) ≡ false

@@ -3,7 +3,7 @@ use Rattle.std.specs.Prelude.{ℕ}
 use Rattle.book.specs.declared.faults.FieldCause.TheVariants.{Range}
 use Rattle.book.specs.Faults.{field_number, fault}
 use Rattle.sheet.specs.declared.faults.SheetCause.{SheetCause}
-use Rattle.sheet.specs.declared.faults.SheetCause.TheVariants.{Entered, Full, Incomplete, Allowance, Unfit, Gross, NotInForce}
+use Rattle.sheet.specs.declared.faults.SheetCause.TheVariants.{Entered, Full, Incomplete, Unfit, NotInForce}
 use Rattle.sheet.specs.declared.faults.SheetFault.{SheetFault}
 use Rattle.sheet.specs.declared.faults.SheetFault.TheVariants.{Field, State}
 
@@ -11,9 +11,7 @@ abbrev pub cause_number : SheetCause → ℕ
 cause_number Entered = 10
 cause_number Full = 11
 cause_number Incomplete = 12
-cause_number Allowance = 23
 cause_number Unfit = 13
-cause_number Gross = 23
 cause_number NotInForce = 27
 
 abbrev pub sheet_number : SheetFault → ℕ

@@ -1,4 +1,2 @@
 pub mod Faults
-pub mod Entries
-pub mod Closing
 pub mod Drafts

@@ -1,7 +1,7 @@
 // What refuses an entry, a closing or a putting in force. It holds a field's fault whole.
 ghost use Rattle.std.specs.Prelude.{◌≡◌};
 ghost use Rattle.sheet.specs.declared.faults.SheetFault.TheVariants.{Field as InField};
-ghost use Rattle.sheet.specs.Faults.{sheet_number, sheet_place, sheet_at, refusal};
+ghost use Rattle.sheet.specs.Faults.{sheet_number, sheet_place, sheet_at};
 
 use book::FieldFault;
 
@@ -11,14 +11,10 @@ pub enum SheetCause {
     Entered,
     // the draft is full
     Full,
-    // no rouble at 10,000, an instrument's currency missing, or a code other than the rouble without pieces
+    // no rouble at 10,000, or a code other than the rouble without pieces
     Incomplete,
-    // an instrument's price times an allowance of its code is over its limit
-    Allowance,
     // the currencies are not the register's
     Unfit,
-    // the gross of a portfolio would be over its limit
-    Gross,
     // no sheet is in force
     NotInForce,
 }
@@ -37,13 +33,6 @@ impl From<FieldFault> for SheetFault {
     }
 }
 
-// A refusal of a call without a book.
-pub(crate) fn refused(cause: SheetCause) -> SheetFault
-    ensures { result ≡ refusal cause }
-{
-    SheetFault::State { cause, place: 0 }
-}
-
 impl SheetFault {
     pub fn number(&self) -> u8
         ensures { result ≡ sheet_number self.now }
@@ -54,9 +43,7 @@ impl SheetFault {
                 SheetCause::Entered => 10,
                 SheetCause::Full => 11,
                 SheetCause::Incomplete => 12,
-                SheetCause::Allowance => 23,
                 SheetCause::Unfit => 13,
-                SheetCause::Gross => 23,
                 SheetCause::NotInForce => 27,
             },
         }

@@ -1,8 +1,5 @@
 // A sheet of prices and rates: a draft takes entries until it is closed, and only a closed sheet can be put in force.
-mod allowances;
-mod completeness;
 mod drafts;
-mod entering;
 mod faults;
 
 pub use drafts::{ClosedSheet, Draft};

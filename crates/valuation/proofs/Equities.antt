@@ -7,13 +7,12 @@ use Rattle.margin.specs.declared.Piece.{Piece}
 use Rattle.margin.specs.Keys.{instrument_code}
 use Rattle.margin.specs.Numbers.{total}
 use Rattle.margin.specs.Sheets.{Apart}
-use Rattle.margin.proofs.Codes.{rising_apart}
 use Rattle.valuation.specs.declared.line.Line.{Line}
 use Rattle.valuation.specs.declared.totals.Figure.{Figure}
 use Rattle.valuation.specs.Keys.{line_code}
 use Rattle.valuation.specs.Values.{line_value, value_in}
 use Rattle.valuation.specs.Holdings.{equity_in}
-use Rattle.valuation.proofs.Joins.{lines_join}
+use Rattle.valuation.proofs.Joins.{lines_join, rising_apart}
 
 pub equity_is : (f : Figure) (pieces : ℕ → List Piece) (is : List Instrument) (ls : List Line) (os : List Order) (c : ℕ) (z : ℤ) → Apart line_code ls → Rising instrument_code is →
     z +ℤ total (value_in (line_value f pieces os) is c) ls ≡ equity_in f pieces is ls os c z

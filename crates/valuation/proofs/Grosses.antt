@@ -8,17 +8,16 @@ use Rattle.margin.specs.declared.Order.{Order}
 use Rattle.margin.specs.Keys.{instrument_code}
 use Rattle.margin.specs.Numbers.{total, count}
 use Rattle.margin.specs.Orders.{on}
-use Rattle.margin.specs.Sheets.{Apart, sheet_of}
+use Rattle.margin.specs.Sheets.{Apart}
 use Rattle.margin.specs.Holdings.{held}
 use Rattle.margin.specs.Limits.{highest, gross}
-use Rattle.margin.proofs.Codes.{rising_apart}
 use Rattle.margin.proofs.Sums.{sum_same}
 use Rattle.valuation.specs.declared.line.Line.{Line}
 use Rattle.valuation.specs.Keys.{line_code}
 use Rattle.valuation.specs.Values.{of, value_in}
-use Rattle.valuation.specs.Holdings.{holding_of, planned_in}
+use Rattle.valuation.specs.Holdings.{sheet_of, holding_of, planned_in}
 use Rattle.valuation.specs.Grosses.{gross_of, count_of, gross_in}
-use Rattle.valuation.proofs.Joins.{lines_join}
+use Rattle.valuation.proofs.Joins.{lines_join, rising_apart}
 use Rattle.valuation.proofs.Parts.{count_alike}
 
 -- ---- the highest price so far

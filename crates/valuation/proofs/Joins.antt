@@ -1,11 +1,12 @@
 -- A sum over lines, each looked up in the sheet, and the sum over the sheet's instruments that have a line.
-use Rattle.std.proofs.Common.{◌≡◌, ℕ, Bool, true, false, cond, ◌&&◌, ◌||◌, eqb, List, [], ◌∷◌, map, ℤ, pos, ◌+ℤ◌, Some, filter, sym, refl, ap, ◌∙◌, ap₂, arith}
+use Rattle.std.proofs.Common.{◌≡◌, ℕ, suc, ◌<◌, Bool, true, false, cond, ◌&&◌, ◌||◌, eqb, List, [], ◌∷◌, map, length, get_or, ℤ, pos, ◌+ℤ◌, Some, filter, sym, refl, ap, ◌∙◌, ap₂, arith}
 use lib.IntN.{+ℤ_idr, +ℤ_idl}
 use borrow.Author.Differences.{ints}
 use Rattle.std.specs.List.{AllByRecursion as All}
 use Rattle.std.proofs.ByRecursion.{All-weaker}
 use Rattle.std.proofs.lemmas.Bool.{eq-eqb, ne_eqb, eqb-true, eqb-false}
-use Rattle.keyed.specs.Rows.{lookup}
+use Rattle.keyed.specs.Rows.{Rising, lookup}
+use Rattle.keyed.proofs.Lookups.{rest, first}
 use Rattle.margin.specs.Numbers.{total, any}
 use Rattle.margin.specs.Sheets.{Apart}
 use Rattle.margin.proofs.Lists.{by_test, any_none, all_both}
@@ -103,3 +104,12 @@ module _ {L I : Type 0} (code : L → ℕ) (planned : L → ℤ) (key currency :
       ∙ walks key found (map code ls) xs (keys_apart code ls a) b
       ∙ sum_same _ _ (λ i. both_tests (eqb c (currency i)) (any (eqb (key i)) (map code ls)) (v i (of planned (lookup code ls (key i))))) xs
       ∙ sym (sum_kept (λ i. eqb c (currency i) && any (eqb (key i)) (map code ls)) (λ i. v i (of planned (lookup code ls (key i)))) xs)
+
+-- ---- keys that rise are apart
+all_later : {X : Type 0} (key : X → ℕ) (k : ℕ) (xs : List X) → ((i : ℕ) (d : X) → i < length xs → k < key (get_or xs i d)) → All (λ y. eqb k (key y) ≡ false) xs
+all_later key k [] h = tt
+all_later key k (y ∷ ys) h = (ne_eqb k (key y) (λ e. omega (arith, h 0 y (omega arith))), all_later key k ys (λ i x l. h (suc i) x (omega arith)))
+
+pub rising_apart : {X : Type 0} (key : X → ℕ) (xs : List X) → Rising key xs → Apart key xs
+rising_apart key [] up = tt
+rising_apart key (x ∷ xs) up = (all_later key (key x) xs (λ i d l. first key x xs up i d l), rising_apart key xs (rest key x xs up))

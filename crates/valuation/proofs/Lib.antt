@@ -1,8 +1,8 @@
-pub mod Steps
+mod Steps
 mod Parts
 mod Lowests
 mod Raws
 mod Values
-pub mod Joins
+mod Joins
 mod Equities
 mod Grosses

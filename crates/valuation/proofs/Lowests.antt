@@ -86,3 +86,8 @@ pub floored_small : (m : ℕ) (o : Option ℤ) → Small (10000 * m) o → nat_a
 floored_small m None h = omega arith
 floored_small m (Some (pos n)) h = omega arith
 floored_small m (Some (negsuc n)) h = omega arith
+
+-- a code that is not known has no pieces, and one that is has at most the source's number
+pub within_limit : {X : Type 0} (ps : List X) (most : ℕ) → (0 < length ps → length ps ≤ most) → (k : ℕ) → most ≤ k → length ps ≤ k
+within_limit [] most h k past = omega arith
+within_limit (p ∷ ps) most h k past = omega (arith, h (omega arith))

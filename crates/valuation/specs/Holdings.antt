@@ -1,4 +1,4 @@
--- The holding that slices make, and the rules' figures of it.
+-- The sheet and the holding that slices make, and the rules' figures of them.
 use Rattle.std.specs.Prelude.{ℕ, List, [], map, ℤ, pos, ◌+ℤ◌, ◌*ℤ◌}
 use Rattle.keyed.specs.Rows.{lookup}
 use Rattle.margin.specs.declared.Currency.{Currency}
@@ -7,12 +7,15 @@ use Rattle.margin.specs.declared.Order.{Order}
 use Rattle.margin.specs.declared.Piece.{Piece}
 use Rattle.margin.specs.Numbers.{down, total}
 use Rattle.margin.specs.Cash.{cash_by}
-use Rattle.margin.specs.Sheets.{sheet_of}
+use Rattle.margin.specs.Sheets.{Sheet}
 use Rattle.margin.specs.Holdings.{Holding, held}
 use Rattle.valuation.specs.declared.line.Line.{Line}
 use Rattle.valuation.specs.declared.totals.Figure.{Figure}
 use Rattle.valuation.specs.Keys.{line_code}
 use Rattle.valuation.specs.Values.{of, line_value, shock_in}
+
+abbrev pub sheet_of : (ℕ → List Piece) → List Currency → List Instrument → Sheet
+sheet_of pieces cs is = record { currencies = cs; instruments = is; pieces = pieces }
 
 -- the planned quantity in a code, 0 where there is no line
 abbrev pub planned_in : List Line → ℕ → ℤ

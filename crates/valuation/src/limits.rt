@@ -4,10 +4,10 @@ ghost use Rattle.keyed.specs.Rows.{Rising};
 ghost use Rattle.margin.specs.Keys.{instrument_code};
 ghost use Rattle.margin.specs.Numbers.{count};
 ghost use Rattle.margin.specs.Orders.{on};
-ghost use Rattle.margin.specs.Sheets.{Apart, sheet_of};
+ghost use Rattle.margin.specs.Sheets.{Apart};
 ghost use Rattle.margin.specs.Limits as limits;
 ghost use Rattle.valuation.specs.Keys.{line_code};
-ghost use Rattle.valuation.specs.Holdings.{holding_of};
+ghost use Rattle.valuation.specs.Holdings.{sheet_of, holding_of};
 ghost use Rattle.valuation.specs.Grosses.{gross_of, gross_in};
 
 use crate::line::Line;

@@ -2,14 +2,14 @@
 ghost use Rattle.std.specs.Prelude.{◌≡◌, ◌*◌, ◌^◌, ◌≤◌, [], length, unsigned_abs};
 ghost use Rattle.keyed.specs.Rows.{Rising, lookup};
 ghost use Rattle.margin.specs.Keys.{instrument_code};
-ghost use Rattle.margin.specs.Sheets.{Apart, sheet_of};
+ghost use Rattle.margin.specs.Sheets.{Apart};
 ghost use Rattle.margin.specs.Cash.{cash_by};
 ghost use Rattle.margin.specs.Figures.{figures_of};
 ghost use Rattle.margin.specs.Fillings.{worst};
 ghost use Rattle.margin.specs.Holdings.{value_of, first_ratio};
 ghost use Rattle.valuation.specs.Keys.{line_code};
 ghost use Rattle.valuation.specs.Values.{line_value, shock_in, value_in};
-ghost use Rattle.valuation.specs.Holdings.{holding_of, equity_in, roubles_in, figure_in};
+ghost use Rattle.valuation.specs.Holdings.{sheet_of, holding_of, equity_in, roubles_in, figure_in};
 
 use crate::line::Line;
 use crate::lines::{in_roubles, low, net, shocked, worth};

@@ -1,6 +1,6 @@
-use Rattle.std.proofs.Common.{◌≡◌, ℕ, ◌-◌, List, [], ◌∷◌, ◌++◌, map, length, take, is_ok, vec_items, ap, ◌∙◌, arith, length-take}
+use Rattle.std.proofs.Common.{◌≡◌, ℕ, ◌-◌, List, ◌++◌, map, length, take, is_ok, ap, ◌∙◌, arith, length-take}
 use Rattle.std.proofs.ResultArms.{chosen}
-use Rattle.book.specs.Book.{Front, fields, fields_of, seen}
+use Rattle.book.specs.Book.{Front, fields_of, seen}
 use Rattle.book.specs.declared.reader.Item.{Item}
 use Rattle.book.proofs.Books.{shorter, told, turn}
 use Rattle.book.proofs.Fronts.{taken}
@@ -9,24 +9,24 @@ use Rattle.book.proofs.reader.read_book.Goals as goal
 pub loop-item-init : goal.loop-item-init
 loop-item-init c =
     let t = taken 65536 c.min.result c.args.book.now c.min.ensures in (
-      ap (λ (is : List Item). map seen is ++ fields_of c.args.rates (take (c.min.result - 0) c.args.book.now) 1) c.new-items.ensures.items ∙ ap (λ (bs : List ℕ). fields_of c.args.rates bs 1) t,
+      ap (λ (is : List Item). map seen is ++ fields_of (take (c.min.result - 0) c.args.book.now) 1) c.new-items.ensures.items ∙ ap (λ (bs : List ℕ). fields_of bs 1) t,
       omega (arith, ap length t, length-take 65536 c.args.book.now),
     )
 
 pub overflow-sub-place : goal.overflow-sub-place
 overflow-sub-place c =
-    let f = told c.args.rates c.in-Some.item c.loop-item.rest.now c.in-Some.after.now c.loop-item.place c.in-Some.ensures in
-    omega (arith, shorter c.args.rates c.loop-item.rest.now c.loop-item.place, ap (λ (f : Front). length f.rest) f.1)
+    let f = told c.loop-item.rest.now c.loop-item.place _ c.in-Some.ensures in
+    omega (arith, shorter c.loop-item.rest.now c.loop-item.place, ap (λ (f : Front). length f.rest) f.1)
 
 pub loop-item-smaller : goal.loop-item-smaller
 loop-item-smaller c =
-    let f = told c.args.rates c.in-Some.item c.loop-item.rest.now c.in-Some.after.now c.loop-item.place c.in-Some.ensures in
-    omega (arith, f.0, shorter c.args.rates c.loop-item.rest.now c.loop-item.place, ap (λ (f : Front). length f.rest) f.1)
+    let f = told c.loop-item.rest.now c.loop-item.place _ c.in-Some.ensures in
+    omega (arith, f.0, shorter c.loop-item.rest.now c.loop-item.place, ap (λ (f : Front). length f.rest) f.1)
 
 pub loop-item-preserved : goal.loop-item-preserved
 loop-item-preserved c =
-    let f = told c.args.rates c.in-Some.item c.loop-item.rest.now c.in-Some.after.now c.loop-item.place c.in-Some.ensures in
-    let pushed = chosen (is_ok c.push.result) (vec_items c.loop-item.items ++ c.in-Some.item ∷ []) (vec_items c.loop-item.items) (vec_items c.push.new.self) c.push.ensures.items (ap is_ok c.in-ok-push.was) in (
-      turn c.args.rates (vec_items c.loop-item.items) (vec_items c.push.new.self) c.in-Some.item c.loop-item.rest.now c.in-Some.after.now c.loop-item.place (fields c.args.rates c.args.book.now) f.0 f.1 pushed c.loop-item.invariant.0,
-      omega (arith, shorter c.args.rates c.loop-item.rest.now c.loop-item.place, ap (λ (f : Front). length f.rest) f.1, c.loop-item.invariant.1),
+    let f = told c.loop-item.rest.now c.loop-item.place _ c.in-Some.ensures in
+    let pushed = chosen _ _ _ _ c.push.ensures.items (ap is_ok c.in-ok-push.was) in (
+      turn _ _ c.in-Some.item c.loop-item.rest.now c.in-Some.after.now c.loop-item.place _ f.0 f.1 pushed c.loop-item.invariant.0,
+      omega (arith, shorter c.loop-item.rest.now c.loop-item.place, ap (λ (f : Front). length f.rest) f.1, c.loop-item.invariant.1),
     )

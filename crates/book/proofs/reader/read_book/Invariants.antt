@@ -4,7 +4,7 @@ use Rattle.book.proofs.reader.read_book.Given as goal
 
 abbrev pub invariant-loop-item : goal.invariant-loop-item
 invariant-loop-item l =
-    (map seen (vec_items l.items) ++ fields_of l.rates l.rest l.place ≡ fields l.rates l.book)
+    (map seen (vec_items l.items) ++ fields_of l.rest l.place ≡ fields l.book)
     × (l.place + length l.rest ≤ 65537)
 
 abbrev pub decreases-loop-item : goal.decreases-loop-item

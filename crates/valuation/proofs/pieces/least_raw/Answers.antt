@@ -1,7 +1,6 @@
 use Rattle.std.proofs.Common.{ℕ, ◌≤◌, sym, ◌∙◌, subst}
-use Rattle.rates.proofs.Limits.{within_limit}
 use Rattle.valuation.specs.Raw.{raw_of, lowest, with_nought, Small, reach}
-use Rattle.valuation.proofs.Lowests.{lower_turn, lower_done, lower_small}
+use Rattle.valuation.proofs.Lowests.{lower_turn, lower_done, lower_small, within_limit}
 use Rattle.valuation.proofs.pieces.least_raw.Goals as goal
 
 pub loop-i-preserved : goal.loop-i-preserved

@@ -1,10 +1,5 @@
-use Rattle.std.proofs.Common.{refl}
-use Rattle.register.specs.Faults.{fault_number}
-use Rattle.register.specs.Runs.{said_figures}
-use Rattle.register.proofs.Runs.{carries}
+use Rattle.register.proofs.Steps.{tells_run}
 use Rattle.register.proofs.state.Register.figures.Goals as goal
 
 pub returns : goal.returns
-returns g c =
-    let a = c.telling.ensures in
-    record { answer = a.answer; fault = a.fault; tables = a.tables; run = carries _ _ _ tt said_figures fault_number (λ x. refl) (λ f. refl) c.telling.result a.answer a.tables }
+returns c = record { answer = c.telling.ensures.answer; run = λ h H. tells_run h c.args.portfolio c.args.self.now H c.telling.result c.telling.ensures.answer }

@@ -1,10 +1,5 @@
-use Rattle.std.proofs.Common.{refl}
-use Rattle.register.specs.Faults.{fault_number}
-use Rattle.register.specs.Runs.{said}
-use Rattle.register.proofs.Runs.{carries}
+use Rattle.register.proofs.Steps.{opens_run}
 use Rattle.register.proofs.state.Register.open_portfolio.Goals as goal
 
 pub returns : goal.returns
-returns g c =
-    let a = c.opening.ensures in
-    record { answer = a.answer; fault = a.fault; tables = a.tables; run = carries _ _ _ tt said fault_number (λ x. refl) (λ f. refl) c.opening.result a.answer a.tables }
+returns c = record { answer = c.opening.ensures.answer; tables = c.opening.ensures.tables; run = λ h H. opens_run h c.args.portfolio c.args.self.now c.opening.new.self c.opening.result H c.opening.ensures.answer c.opening.ensures.tables }

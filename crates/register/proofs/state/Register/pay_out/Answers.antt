@@ -1,10 +1,5 @@
-use Rattle.std.proofs.Common.{refl}
-use Rattle.register.specs.Faults.{fault_number}
-use Rattle.register.specs.Runs.{said}
-use Rattle.register.proofs.Runs.{carries}
+use Rattle.register.proofs.Steps.{pays_out_run}
 use Rattle.register.proofs.state.Register.pay_out.Goals as goal
 
 pub returns : goal.returns
-returns g c =
-    let a = c.paying-out.ensures in
-    record { answer = a.answer; fault = a.fault; tables = a.tables; run = carries _ _ _ tt said fault_number (λ x. refl) (λ f. refl) c.paying-out.result a.answer a.tables }
+returns c = record { answer = c.paying-out.ensures.answer; tables = c.paying-out.ensures.tables; run = λ h H. pays_out_run h c.args.portfolio c.args.currency c.args.amount c.args.self.now c.paying-out.new.self c.paying-out.result H c.paying-out.ensures.answer c.paying-out.ensures.tables }

@@ -1,0 +1,13 @@
+use Rattle.std.proofs.Common.{◌≡◌, ap}
+use Rattle.std.proofs.lemmas.Result.{err_from_is_err_and}
+use Rattle.book.specs.declared.faults.FieldFault.{FieldFault}
+use Rattle.book.specs.Requests.{asked, out_of_range}
+use Rattle.book.proofs.Refusals.{refused, refused_content}
+use Rattle.book.proofs.reader.in_range.Goals as goal
+
+pub returns-in-err-check-range : goal.returns-in-err-check-range
+returns-in-err-check-range c =
+    let p = err_from_is_err_and c.from-residual.result c.from-residual.ensures.1 in
+    let e = c.in-err-check-range.ensures in
+    let q = asked c.args.kind in
+    rw (p.1, p.2) (record { content = refused_content (out_of_range q) q c.args.place _ e; place = ap (λ (f : FieldFault). f.place) (refused (out_of_range q) c.args.place _ e) })

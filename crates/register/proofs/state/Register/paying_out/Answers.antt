@@ -1,0 +1,49 @@
+use Rattle.std.proofs.Common.{◌≡◌, ◌≤◌, false, List, length, ℤ, pos, ◌-ℤ◌, neg_ℤ, Err, sym, refl, ap, ◌∙◌, subst, arith, w64, to_z, of_z, rules}
+use borrow.Author.Differences.{ints}
+use Rattle.book.proofs.Refusals.{not_refused}
+use Rattle.register.specs.State.{currencies}
+use Rattle.register.specs.Writes.{Writes}
+use Rattle.margin.specs.Cash.{cash_by, cash_holding}
+use Rattle.margin.specs.Limits.{worsens}
+use Rattle.register.specs.State.{in_force}
+use Rattle.register.proofs.Payments.{not_moved, is_moved, pays, out_over, out_worse, out_done}
+use Rattle.register.proofs.state.Register.paying_out.Goals as goal
+
+pub returns-in-default-moved : goal.returns-in-default-moved
+returns-in-default-moved c =
+    let i = c.in-Some-place-of.place in
+    let long : length (currencies c.args.self.now) ≤ length c.in-Some.row.cash = search rules in
+    let is : to_z w64 (of_z w64 (pos 0 -ℤ to_z w64 c.args.amount)) ≡ neg_ℤ (pos c.args.amount) = search rules in
+    let over = not_moved c.in-Some.row.cash i _ (neg_ℤ (pos c.args.amount)) is c.in-default-moved.ensures.is in
+    record {
+      answer = ap Err c.refused-in-default-moved.ensures ∙ out_over c.args.self.now _ _ i c.in-Some.row (sym c.in-Some.ensures.value) c.in-Some-place-of.ensures long c.args.amount (not_refused _ 0 _ c.in-ok-check-payment.ensures) over;
+      tables = record { currencies = refl; portfolios = refl };
+    }
+
+pub returns-in-default-is-worse : goal.returns-in-default-is-worse
+returns-in-default-is-worse c =
+    let i = c.in-Some-place-of.place in
+    let long : length (currencies c.args.self.now) ≤ length c.in-Some.row.cash = search rules in
+    let is : to_z w64 (of_z w64 (pos 0 -ℤ to_z w64 c.args.amount)) ≡ neg_ℤ (pos c.args.amount) = search rules in
+    let m = is_moved c.in-Some.row.cash i _ (neg_ℤ (pos c.args.amount)) is c.in-Some-moved.cash c.in-Some-moved.ensures.is in
+    let r = c.args.self.now in
+    let judged = c.in-default-is-worse.ensures ∙ ap (λ (l : List ℤ). worsens (in_force r) (cash_holding (cash_by (currencies r) c.in-Some.row.cash)) (cash_holding (cash_by (currencies r) l))) m.1 in
+    record {
+      answer = ap Err c.refused-in-default-is-worse.ensures ∙ out_worse r _ _ i c.in-Some.row (sym c.in-Some.ensures.value) c.in-Some-place-of.ensures long c.args.amount (not_refused _ 0 _ c.in-ok-check-payment.ensures) m.0 _ judged refl;
+      tables = record { currencies = refl; portfolios = refl };
+    }
+
+pub returns : goal.returns
+returns c =
+    let i = c.in-Some-place-of.place in
+    let long : length (currencies c.args.self.now) ≤ length c.in-Some.row.cash = search rules in
+    let is : to_z w64 (of_z w64 (pos 0 -ℤ to_z w64 c.args.amount)) ≡ neg_ℤ (pos c.args.amount) = search rules in
+    let m = is_moved c.in-Some.row.cash i _ (neg_ℤ (pos c.args.amount)) is c.in-Some-moved.cash c.in-Some-moved.ensures.is in
+    let r = c.args.self.now in
+    let there = sym c.in-Some.ensures.value in
+    let s = c.in-Some-place-of.ensures in
+    let judged = c.in-false.ensures ∙ ap (λ (l : List ℤ). worsens (in_force r) (cash_holding (cash_by (currencies r) c.in-Some.row.cash)) (cash_holding (cash_by (currencies r) l))) m.1 in
+    record {
+      answer = out_done r _ _ i c.in-Some.row there s long c.args.amount (not_refused _ 0 _ c.in-ok-check-payment.ensures) m.0 _ judged refl;
+      tables = pays r _ _ i c.in-Some.row there s long (neg_ℤ (pos c.args.amount)) _ (subst (λ (l : List ℤ). Writes r c.args.portfolio l c.post.new.self) m.1 c.post.ensures);
+    }

@@ -1,0 +1,37 @@
+use Rattle.std.proofs.Common.{◌≡◌, ℕ, ◌-◌, true, false, List, take, sym, refl, ap, ◌∙◌, subst, arith}
+use Rattle.std.proofs.lemmas.Bool.{cond-true}
+use Rattle.keyed.specs.Rows.{Rising}
+use Rattle.margin.specs.declared.Currency.{Currency}
+use Rattle.margin.specs.Cash.{cash_sheet}
+use Rattle.margin.specs.Keys.{currency_code}
+use Rattle.sheet.specs.Drafts.{closed_entries, incomplete}
+use Rattle.register.specs.State.{currencies}
+use Rattle.register.specs.Answers.{same_codes}
+use Rattle.register.proofs.SameCodes.{same_length, fitting}
+use Rattle.register.proofs.Sheets.{put}
+use Rattle.register.proofs.state.Register.putting.Goals as goal
+
+pub overwrite-requires : goal.overwrite-requires
+overwrite-requires c =
+    let same = fitting (same_codes c.as-slice.result.now (take (c.currencies.result - 0) c.args.table.now)) _ c.in-default.ensures in
+    omega (arith, same_length c.as-slice.result.now (take (c.currencies.result - 0) c.args.table.now) same)
+
+pub invariant-of-self : goal.invariant-of-self
+invariant-of-self c =
+    let n : c.currencies.result - 0 ≡ c.args.closed.currencies = omega arith in
+    let e = c.overwrite.ensures.items ∙ ap (λ (k : ℕ). take k c.args.table.now) n in (
+      omega (arith, c.overwrite.ensures.len, c.args.self.now.few),
+      (
+        subst (λ (cs : List Currency). Rising currency_code cs) (sym e) c.requires.rising,
+        (subst (λ (cs : List Currency). incomplete (cash_sheet cs) ≡ false) (sym e) c.requires.complete, (c.args.self.now.portfolios_rise, tt)),
+      ),
+    )
+
+pub returns : goal.returns
+returns c =
+    let n : c.currencies.result - 0 ≡ c.args.closed.currencies = omega arith in
+    let e = ap (λ (k : ℕ). take k c.args.table.now) n in
+    let same = fitting (same_codes c.as-slice.result.now (take (c.currencies.result - 0) c.args.table.now)) _ c.in-default.ensures in
+    let codes : same_codes (currencies c.args.self.now) (closed_entries c.args.closed c.args.table.now) ≡ true =
+    ap (λ (cs : List Currency). same_codes cs (closed_entries c.args.closed c.args.table.now)) (sym c.as-slice.ensures.value) ∙ ap (same_codes c.as-slice.result.now) (sym e) ∙ same in
+    record { answer = sym (cond-true _ _ _ codes); tables = put c.args.self.now _ _ (c.overwrite.ensures.items ∙ e) refl codes }

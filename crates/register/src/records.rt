@@ -1,0 +1,11 @@
+// A portfolio: its number, and its cash by the place of the currency in the sheet.
+ghost use Rattle.std.specs.Prelude.{ℕ, ◌≤◌, pos, slice_index_or, unsigned_abs};
+
+pub(crate) mod keys;
+
+#[derive(Clone, Copy)]
+pub struct Portfolio {
+    pub(crate) number: u16,
+    pub(crate) cash: [i64; 8],
+    ghost small: { (i : ℕ) → unsigned_abs (slice_index_or cash i (pos 0)) ≤ 200_000_000_000 },
+}
