@@ -1,4 +1,6 @@
 // The bytes of a book: fields of a tag, a length of two bytes and a payload, numbers with the highest byte first.
+#![tactic(auto)]
+
 mod faults;
 mod fields;
 mod numbers;

@@ -1,4 +1,6 @@
 // Books cut short, damaged and too long, against the answers that they should have.
+#![tactic(auto)]
+
 #[cfg(test)]
 mod tests {
     use desk::{Outcome, run};

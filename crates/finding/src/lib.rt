@@ -1,4 +1,6 @@
 // Finding a row by its code, for a program in Rust or C to time.
+#![tactic(auto)]
+
 ghost use Rattle.std.specs.Prelude.{◌≡◌, ◌<◌, ◌≤◌, length, take, None};
 ghost use Rattle.keyed.specs.Rows.{Rising, Stands, lookup};
 

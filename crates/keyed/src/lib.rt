@@ -1,4 +1,6 @@
 // Tables of records whose keys rise.
+#![tactic(auto)]
+
 pub mod keys;
 pub mod laws;
 pub mod slices;

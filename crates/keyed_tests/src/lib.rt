@@ -1,4 +1,6 @@
 // Tables at two record types: filled, emptied and filled again.
+#![tactic(auto)]
+
 ghost use Rattle.std.specs.Prelude.{◌+◌, ◌*◌, ◌^◌};
 
 use keyed::Keyed;

@@ -1,5 +1,7 @@
 // Runs the book on standard input against a register, and prints the outcome of each field: its number from 1, its tag, its
 // answer (0 where it is accepted), and the figures that it asked for.
+#![tactic(auto)]
+
 use desk::{Outcome, run};
 use std::io;
 use std::io::Read;

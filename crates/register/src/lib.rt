@@ -1,4 +1,6 @@
 // The register of client portfolios under the sheet in force.
+#![tactic(auto)]
+
 mod faults;
 mod records;
 mod state;

@@ -1,3 +1,5 @@
+#![tactic(auto)]
+
 ghost use Rattle.rules.specs.Books.{BooksAnswered};
 ghost use Rattle.rules.specs.Laws.{EveryRunIsLawful};
 ghost use Rattle.rules.specs.Premises.{PremisesAreMet};

@@ -1,4 +1,6 @@
 // A sheet of prices and rates: a draft takes entries until it is closed, and only a closed sheet can be put in force.
+#![tactic(auto)]
+
 mod drafts;
 mod faults;
 

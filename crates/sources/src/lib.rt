@@ -1,4 +1,6 @@
 // Two sources of rates: the posted table and the stepped table. Each takes up to 263 codes.
+#![tactic(auto)]
+
 mod posted;
 mod refusals;
 mod rows;

@@ -1,4 +1,6 @@
 // What a portfolio is worth and how large it is, over slices and whatever source of rates.
+#![tactic(auto)]
+
 mod limits;
 mod line;
 mod lines;
