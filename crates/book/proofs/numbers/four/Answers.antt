@@ -3,4 +3,4 @@ use Rattle.book.proofs.Spelling.{spelled}
 use Rattle.book.proofs.numbers.four.Goals as goal
 
 pub returns : goal.returns
-returns c = omega (arith, spelled 4 c.args.bytes.now (omega arith), c.from-be-bytes.ensures)
+returns c = omega (arith, spelled 4 c.args.bytes.now (omega arith), c.from_be_bytes.ensures)

@@ -4,9 +4,9 @@ use Rattle.book.proofs.reader.payment.Goals as goal
 
 pub returns : goal.returns
 returns c h =
-    let p = c.in-ok-portfolio.ensures.cases in
-    let k = c.in-ok-currency.ensures.cases in
-    let x = c.in-ok-amount.ensures.cases in
+    let p = c.in_ok-portfolio.ensures.cases in
+    let k = c.in_ok-currency.ensures.cases in
+    let x = c.in_ok-amount.ensures.cases in
     record {
       portfolio = ap number p.0;
       currency = ap number (k.0 ∙ ap (take 2) p.1);

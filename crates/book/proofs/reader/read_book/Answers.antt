@@ -26,7 +26,7 @@ loop-item-smaller c =
 pub loop-item-preserved : goal.loop-item-preserved
 loop-item-preserved c =
     let f = told c.loop-item.rest.now c.loop-item.place _ c.in-Some.ensures in
-    let pushed = chosen _ _ _ _ c.push.ensures.items (ap is_ok c.in-ok-push.was) in (
+    let pushed = chosen _ _ _ _ c.push.ensures.items (ap is_ok c.in_ok-push.was) in (
       turn _ _ c.in-Some.item c.loop-item.rest.now c.in-Some.after.now c.loop-item.place _ f.0 f.1 pushed c.loop-item.invariant.0,
       omega (arith, shorter c.loop-item.rest.now c.loop-item.place, ap (λ (f : Front). length f.rest) f.1, c.loop-item.invariant.1),
     )

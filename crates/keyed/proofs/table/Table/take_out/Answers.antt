@@ -10,7 +10,7 @@ returns g c =
     let t = c.args.self.now in
     let key = g.R.Keyed.key in
     let same = with_items_is t.places c.remove.new.table (omega arith) in
-    let e = ap (take (t.used - 1)) same ∙ c.remove.ensures.records ∙ ap (λ (zs : List g.row.R.Denot). remove (take t.used zs) c.args.at) c.as-mut-slice.ensures.value in
+    let e = ap (take (t.used - 1)) same ∙ c.remove.ensures.records ∙ ap (λ (zs : List g.row.R.Denot). remove (take t.used zs) c.args.at) c.as_mut_slice.ensures.value in
     record {
       was = standing_is key t _ _ _ c.requires.sound c.requires.stands c.row-old.ensures;
       sets = sets key t _ _ None c.requires.sound tt (e ∙ removed_is key _ _ _ c.requires.sound c.requires.stands) refl;
