@@ -1,7 +1,6 @@
 -- Look-ups in lists whose keys rise: after each edit, and that they say which list it is.
 use Rattle.std.proofs.Common.{◌≡◌, ℕ, zero, suc, ◌+◌, ◌-◌, ◌<◌, ◌≤◌, false, cond, eqb, List, [], ◌∷◌, length, get_or, set, Some, None, Option, sym, refl, ap, ◌∙◌, inl, inr, arith}
 use Rattle.std.specs.List.{insert, remove}
-use Rattle.std.specs.Map.{update}
 use Rattle.std.proofs.lemmas.List.{length-set, get_or-set_same, get_or-set_other, get_or_default}
 use Rattle.std.proofs.lemmas.List.Edits.{length-insert, length-remove, get_or-insert_below, get_or-insert_at, get_or-insert_above, get_or-remove_below, get_or-remove_above}
 use Rattle.std.proofs.lemmas.Bool.{cases_lt, cases_order, cases_Bool, eq-eqb, ne_eqb, eqb-true, cond-true, cond-false}
@@ -15,6 +14,10 @@ swap q a b u v w apart =
       | inl s ↦ let f : eqb q b ≡ false = ne_eqb q b (λ e. apart (sym (eqb-true q a s) ∙ e)) in rw (s, f)
       | inr s ↦ rw s
     ]
+
+-- f with w at k
+abbrev pub written : {R : Type 0} → (ℕ → Option R) → ℕ → Option R → ℕ → Option R
+written f k w q = cond (eqb q k) w (f q)
 
 module _ {R : Type 0} (key : R → ℕ) where
   -- no record has the key q
@@ -63,14 +66,14 @@ module _ {R : Type 0} (key : R → ℕ) where
   lookup_gap xs q i g = lookup_none xs q (apart_gap xs q i g)
 
   -- ---- one record more
-  pub lookup_insert : (xs : List R) (i : ℕ) (x : R) (q : ℕ) → i ≤ length xs → Apart xs (key x) → lookup key (insert xs i x) q ≡ update eqb (lookup key xs) (key x) (Some x) q
+  pub lookup_insert : (xs : List R) (i : ℕ) (x : R) (q : ℕ) → i ≤ length xs → Apart xs (key x) → lookup key (insert xs i x) q ≡ written (lookup key xs) (key x) (Some x) q
   lookup_insert xs zero x q le h = refl
   lookup_insert [] (suc i) x q le h = absurd (omega arith)
   lookup_insert (y ∷ ys) (suc i) x q le h =
       ap (λ (w : Option R). cond (eqb q (key y)) (Some y) w) (lookup_insert ys i x q (omega arith) (λ k d l. h (suc k) d (omega arith)))
       ∙ swap q (key y) (key x) (Some y) (Some x) (lookup key ys q) (λ e. h 0 y (omega arith) (sym e))
 
-  pub lookup_inserted : (xs : List R) (i : ℕ) (x : R) (q : ℕ) → Gap key xs (key x) i → lookup key (insert xs i x) q ≡ update eqb (lookup key xs) (key x) (Some x) q
+  pub lookup_inserted : (xs : List R) (i : ℕ) (x : R) (q : ℕ) → Gap key xs (key x) i → lookup key (insert xs i x) q ≡ written (lookup key xs) (key x) (Some x) q
   lookup_inserted xs i x q g = lookup_insert xs i x q g.within (apart_gap xs (key x) i g)
 
   inserted_above : (xs : List R) (i : ℕ) (x d : R) (k : ℕ) → i < k → i ≤ length xs → get_or (insert xs i x) k d ≡ get_or xs (k - 1) d
@@ -102,7 +105,7 @@ module _ {R : Type 0} (key : R → ℕ) where
   rising_inserted xs at x up g = near key (insert xs at x) (far_inserted xs at x (far key xs up) g)
 
   -- ---- one record less
-  pub lookup_remove : (xs : List R) (i : ℕ) (d : R) (q : ℕ) → Rising key xs → i < length xs → lookup key (remove xs i) q ≡ update eqb (lookup key xs) (key (get_or xs i d)) None q
+  pub lookup_remove : (xs : List R) (i : ℕ) (d : R) (q : ℕ) → Rising key xs → i < length xs → lookup key (remove xs i) q ≡ written (lookup key xs) (key (get_or xs i d)) None q
   lookup_remove [] i d q up h = absurd (omega arith)
   lookup_remove (x ∷ xs) zero d q up h =
       elim (cases_Bool (eqb q (key x))) [
@@ -129,7 +132,7 @@ module _ {R : Type 0} (key : R → ℕ) where
   rising_removed xs at up in' = near key (remove xs at) (far_removed xs at (far key xs up) in')
 
   -- ---- a record in the place of one with its key
-  pub lookup_replace : (xs : List R) (i : ℕ) (x : R) (q : ℕ) → Rising key xs → i < length xs → key (get_or xs i x) ≡ key x → lookup key (set xs i x) q ≡ update eqb (lookup key xs) (key x) (Some x) q
+  pub lookup_replace : (xs : List R) (i : ℕ) (x : R) (q : ℕ) → Rising key xs → i < length xs → key (get_or xs i x) ≡ key x → lookup key (set xs i x) q ≡ written (lookup key xs) (key x) (Some x) q
   lookup_replace [] i x q up h e = absurd (omega arith)
   lookup_replace (y ∷ ys) zero x q up h e =
       elim (cases_Bool (eqb q (key x))) [

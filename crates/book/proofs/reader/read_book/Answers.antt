@@ -13,8 +13,8 @@ loop-item-init c =
       omega (arith, ap length t, length-take 65536 c.args.book.now),
     )
 
-pub overflow-sub-place : goal.overflow-sub-place
-overflow-sub-place c =
+pub overflow_sub-place : goal.overflow_sub-place
+overflow_sub-place c =
     let f = told c.loop-item.rest.now c.loop-item.place _ c.in-Some.ensures in
     omega (arith, shorter c.loop-item.rest.now c.loop-item.place, ap (λ (f : Front). length f.rest) f.1)
 

@@ -17,9 +17,9 @@ loop-i-preserved c =
     let x : Currency = get_or c.args.currencies.now c.loop-i.i (record { code = 0; fx = 0 }) in
     let fz : SFits w64 (get_or c.args.cash.now c.loop-i.i (pos 0)) = search rules in
     let fs : SFits w64 c.shocked.result = search rules in
-    let e = simp to_z-of_z at c.in-roubles-value.ensures.is in
+    let e = simp to_z-of_z at c.in_roubles-value.ensures.is in
     let s = simp to_z-of_z at c.shocked.ensures in
-    let f = (simp to_z-of_z at c.in-roubles-first.ensures.is) ∙ ap (λ (z : ℤ). down (z *ℤ pos x.fx) 10000) s in
+    let f = (simp to_z-of_z at c.in_roubles-first.ensures.is) ∙ ap (λ (z : ℤ). down (z *ℤ pos x.fx) 10000) s in
     let v = by_place_more valued c.args.currencies.now c.args.cash.now i d (omega arith) (omega arith) in
     let n = by_place_more at_risk c.args.currencies.now c.args.cash.now i d (omega arith) (omega arith) in
     (omega (arith, ints, v, e), omega (arith, ints, n, f), omega (arith, ints), omega (arith, ints))

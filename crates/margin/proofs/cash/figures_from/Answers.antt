@@ -7,6 +7,6 @@ use Rattle.margin.proofs.cash.figures_from.Goals as goal
 pub returns : goal.returns
 returns c =
     let fi : SFits w128 (c.args.value -ℤ c.args.first) = search rules in
-    let fm : SFits w128 c.half-up-minimum.result = search rules in
-    let fd : SFits w128 (c.args.value -ℤ c.half-up-minimum.result) = search rules in
+    let fm : SFits w128 c.half_up-minimum.result = search rules in
+    let fd : SFits w128 (c.args.value -ℤ c.half_up-minimum.result) = search rules in
     search (rules, to_z-of_z)

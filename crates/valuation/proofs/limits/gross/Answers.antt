@@ -13,7 +13,7 @@ loop-line-preserved c =
     let value = gross_in c.args.orders.now c.args.instruments.now c.args.currency in
     let more = count_more value c.args.lines.now c.loop-line.line-index c.line-item.result c.loop-line-test.true in
     let here = ap value c.line-item.is in
-    (omega (arith, c.loop-line.invariant.0, more, here, c.gross-in-sum.ensures.is), omega (arith, c.gross-in-sum.ensures.small))
+    (omega (arith, c.loop-line.invariant.0, more, here, c.gross_in-sum.ensures.is), omega (arith, c.gross_in-sum.ensures.small))
 
 pub returns : goal.returns
 returns c =

@@ -12,14 +12,14 @@ pub returns : goal.returns
 returns g c =
     let pieces = g.S.RateSource.pieces c.args.source.now in
     let i = c.args.instrument in
-    let f : SFits w128 c.least-value.result = search rules in
-    let back = to_z-of_z w128 c.least-value.result f in
-    let small : nat_abs c.least-value.result ≤ 10 ^ 24 = omega arith in
+    let f : SFits w128 c.least_value.result = search rules in
+    let back = to_z-of_z w128 c.least_value.result f in
+    let small : nat_abs c.least_value.result ≤ 10 ^ 24 = omega arith in
     record {
       small = subst (λ z. nat_abs z ≤ 10 ^ 24) (sym back) small;
       is = back
-          ∙ c.least-value.ensures.is
-          ∙ ap (λ (b : Bool). least (λ p. down (raw_of [] c.stake-of.result p) 10000) (with_nought b (pieces c.stake-of.result.code))) c.is-off-list.ensures
-          ∙ ap (λ (l : Stake). least (λ p. down (raw_of [] l p) 10000) (with_nought (off_list i.kind) (pieces l.code))) c.stake-of.ensures.is
+          ∙ c.least_value.ensures.is
+          ∙ ap (λ (b : Bool). least (λ p. down (raw_of [] c.stake_of.result p) 10000) (with_nought b (pieces c.stake_of.result.code))) c.is_off_list.ensures
+          ∙ ap (λ (l : Stake). least (λ p. down (raw_of [] l p) 10000) (with_nought (off_list i.kind) (pieces l.code))) c.stake_of.ensures.is
           ∙ worth_is i.price i.code c.args.line.planned (pos i.price *ℤ c.args.line.planned) (with_nought (off_list i.kind) (pieces i.code)) refl;
     }

@@ -11,7 +11,7 @@ pub loop-order-preserved : goal.loop-order-preserved
 loop-order-preserved c =
     let d : Order = record { number = 0; portfolio = 0; code = 0; side = Buy; left = 0; price = 0 } in
     let e = count_more (λ o. cond (on c.args.code o) (loss c.args.price c.args.weight o) 0) c.args.orders.now c.loop-order.order-index d c.loop-order-test.true in
-    (omega (arith, e, c.with-loss-sum.ensures.is), omega (arith, c.with-loss-sum.ensures.small))
+    (omega (arith, e, c.with_loss-sum.ensures.is), omega (arith, c.with_loss-sum.ensures.small))
 
 pub returns : goal.returns
 returns c = search (rules, take_all)

@@ -7,8 +7,8 @@ pub loop-i-preserved : goal.loop-i-preserved
 loop-i-preserved g c =
     let ps = g.S.RateSource.pieces c.args.source.now c.args.stake.code in
     let f = raw_of c.args.orders.now c.args.stake in (
-      lower_turn f ps c.loop-i.i c.loop-i.best c.piece-at.result c.lower-of-best.result (lowest f (with_nought c.args.off ps)) c.piece-at.ensures.is c.lower-of-best.ensures c.loop-i.invariant.0,
-      subst (Small (reach c.args.stake.amount)) (sym c.lower-of-best.ensures) (lower_small (reach c.args.stake.amount) c.loop-i.best c.piece-at.result c.loop-i.invariant.1 c.piece-at.ensures.small),
+      lower_turn f ps c.loop-i.i c.loop-i.best c.piece_at.result c.lower_of-best.result (lowest f (with_nought c.args.off ps)) c.piece_at.ensures.is c.lower_of-best.ensures c.loop-i.invariant.0,
+      subst (Small (reach c.args.stake.amount)) (sym c.lower_of-best.ensures) (lower_small (reach c.args.stake.amount) c.loop-i.best c.piece_at.result c.loop-i.invariant.1 c.piece_at.ensures.small),
     )
 
 pub returns : goal.returns

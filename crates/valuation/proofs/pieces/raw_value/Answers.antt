@@ -2,23 +2,23 @@ use Rattle.std.proofs.Common.{arith, rules}
 use Rattle.valuation.proofs.Raws.{fitting}
 use Rattle.valuation.proofs.pieces.raw_value.Goals as goal
 
-pub overflow-mul-result : goal.overflow-mul-result
-overflow-mul-result c =
+pub overflow_mul-result : goal.overflow_mul-result
+overflow_mul-result c =
     let f = fitting c.args.piece.weight c.args.piece.allowance c.args.price c.args.lost c.args.amount c.requires.weight c.requires.allowance (omega arith) c.requires.lost c.requires.amount in
     search rules
 
-pub overflow-mul-result-2 : goal.overflow-mul-result-2
-overflow-mul-result-2 c =
+pub overflow_mul-result-2 : goal.overflow_mul-result-2
+overflow_mul-result-2 c =
     let f = fitting c.args.piece.weight c.args.piece.allowance c.args.price c.args.lost c.args.amount c.requires.weight c.requires.allowance (omega arith) c.requires.lost c.requires.amount in
     search rules
 
-pub overflow-add-result : goal.overflow-add-result
-overflow-add-result c =
+pub overflow_add-result : goal.overflow_add-result
+overflow_add-result c =
     let f = fitting c.args.piece.weight c.args.piece.allowance c.args.price c.args.lost c.args.amount c.requires.weight c.requires.allowance (omega arith) c.requires.lost c.requires.amount in
     search rules
 
-pub overflow-sub-result : goal.overflow-sub-result
-overflow-sub-result c =
+pub overflow_sub-result : goal.overflow_sub-result
+overflow_sub-result c =
     let f = fitting c.args.piece.weight c.args.piece.allowance c.args.price c.args.lost c.args.amount c.requires.weight c.requires.allowance (omega arith) c.requires.lost c.requires.amount in
     search rules
 

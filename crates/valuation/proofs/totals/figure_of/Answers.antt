@@ -12,7 +12,7 @@ loop-i-preserved g c =
     let d : Currency = record { code = 0; fx = 0 } in
     let f = roubles_in c.args.figure (g.S.RateSource.pieces c.args.source.now) c.args.instruments.now c.args.lines.now c.args.orders.now in
     let fz : SFits w64 (get_or c.args.cash.now c.loop-i.i (pos 0)) = search rules in
-    let e = simp to_z-of_z at c.currency-value-sum.ensures.is in
+    let e = simp to_z-of_z at c.currency_value-sum.ensures.is in
     let more = by_place_more f c.args.currencies.now c.args.cash.now c.loop-i.i d (omega arith) (omega arith) in
     (omega (arith, ints, more, e), omega (arith, ints))
 

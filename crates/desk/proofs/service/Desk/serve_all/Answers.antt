@@ -11,7 +11,7 @@ loop-item-init c = subst (λ (os : List Outcome). SoFar c.args.self.now [] os c.
 
 pub loop-item-preserved : goal.loop-item-preserved
 loop-item-preserved c =
-    turn c.args.self.now c.loop-item.self c.serve.new.self c.args.items.now c.loop-item.item-index _ _ _ c.in-ok-serve.field-0 (omega arith) c.in-ok-push.ensures.items c.loop-item.invariant c.in-ok-serve.ensures
+    turn c.args.self.now c.loop-item.self c.serve.new.self c.args.items.now c.loop-item.item-index _ _ _ c.in_ok-serve.field-0 (omega arith) c.in_ok-push.ensures.items c.loop-item.invariant c.in_ok-serve.ensures
 
 pub returns : goal.returns
 returns c = subst (λ (is : List Item). SoFar c.args.self.now (map seen is) (vec_items c.loop-item.outcomes) c.loop-item.self) (take_all c.loop-item.item-index c.args.items.now (omega arith)) c.loop-item.invariant

@@ -6,4 +6,4 @@ use Rattle.desk.proofs.service.runs.run.Goals as goal
 
 pub returns : goal.returns
 returns c =
-    whole _ _ _ c.deref.result.now _ c.begin-desk.ensures (ap (λ (is : List Item). map seen is) c.deref.ensures.value ∙ c.in-ok-items.ensures) c.serve-all-outcomes.ensures
+    whole _ _ _ c.deref.result.now _ c.begin-desk.ensures (ap (λ (is : List Item). map seen is) c.deref.ensures.value ∙ c.in_ok-items.ensures) c.serve_all-outcomes.ensures

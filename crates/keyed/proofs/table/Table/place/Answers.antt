@@ -7,5 +7,5 @@ pub returns : goal.returns
 returns g c =
     let key = g.R.Keyed.key in
     let t = c.args.self.now in
-    let sought = subst (λ (ys : List g.row.R.Denot). Rising key (take t.used ys) → Sought key (take t.used ys) (g.Key-as-Key.rank c.args.key) c.find.result) c.as-slice.ensures.value c.find.ensures.sought in
+    let sought = subst (λ (ys : List g.row.R.Denot). Rising key (take t.used ys) → Sought key (take t.used ys) (g.R.Key.Key.rank c.args.key) c.find.result) c.as_slice.ensures.value c.find.ensures.sought in
     located key t _ _ c.requires (sought c.requires)

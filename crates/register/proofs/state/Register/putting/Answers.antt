@@ -13,11 +13,11 @@ use Rattle.register.proofs.state.Register.putting.Goals as goal
 
 pub overwrite-requires : goal.overwrite-requires
 overwrite-requires c =
-    let same = fitting (same_codes c.as-slice.result.now (take (c.currencies.result - 0) c.args.table.now)) _ c.in-default.ensures in
-    omega (arith, same_length c.as-slice.result.now (take (c.currencies.result - 0) c.args.table.now) same)
+    let same = fitting (same_codes c.as_slice.result.now (take (c.currencies.result - 0) c.args.table.now)) _ c.in_default.ensures in
+    omega (arith, same_length c.as_slice.result.now (take (c.currencies.result - 0) c.args.table.now) same)
 
-pub invariant-of-self : goal.invariant-of-self
-invariant-of-self c =
+pub invariant_of-self : goal.invariant_of-self
+invariant_of-self c =
     let n : c.currencies.result - 0 ≡ c.args.closed.currencies = omega arith in
     let e = c.overwrite.ensures.items ∙ ap (λ (k : ℕ). take k c.args.table.now) n in (
       omega (arith, c.overwrite.ensures.len, c.args.self.now.few),
@@ -31,7 +31,7 @@ pub returns : goal.returns
 returns c =
     let n : c.currencies.result - 0 ≡ c.args.closed.currencies = omega arith in
     let e = ap (λ (k : ℕ). take k c.args.table.now) n in
-    let same = fitting (same_codes c.as-slice.result.now (take (c.currencies.result - 0) c.args.table.now)) _ c.in-default.ensures in
+    let same = fitting (same_codes c.as_slice.result.now (take (c.currencies.result - 0) c.args.table.now)) _ c.in_default.ensures in
     let codes : same_codes (currencies c.args.self.now) (closed_entries c.args.closed c.args.table.now) ≡ true =
-    ap (λ (cs : List Currency). same_codes cs (closed_entries c.args.closed c.args.table.now)) (sym c.as-slice.ensures.value) ∙ ap (same_codes c.as-slice.result.now) (sym e) ∙ same in
+    ap (λ (cs : List Currency). same_codes cs (closed_entries c.args.closed c.args.table.now)) (sym c.as_slice.ensures.value) ∙ ap (same_codes c.as_slice.result.now) (sym e) ∙ same in
     record { answer = sym (cond-true _ _ _ codes); tables = put c.args.self.now _ _ (c.overwrite.ensures.items ∙ e) refl codes }

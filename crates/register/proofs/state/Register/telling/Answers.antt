@@ -15,7 +15,7 @@ returns c =
     let there = sym c.in-Some.ensures.value in
     record {
       answer =
-          passes _ out_of_range _ _ (not_refused _ 0 _ c.in-ok-check-portfolio.ensures)
+          passes _ out_of_range _ _ (not_refused _ 0 _ c.in_ok-check_portfolio.ensures)
           (passes _ (refusal NoPortfolio) _ _ (ap (λ o. not (is_some o)) there)
           (ap Ok (c.figures_of.ensures ∙ ap (λ (f : ℕ → ℤ). figures_of (in_force r) (cash_holding f)) (sym (cash_of_row r c.args.portfolio c.in-Some.row there)))));
     }
