@@ -2,16 +2,14 @@
 use Rattle.std.proofs.Common.{◌≡◌, ℕ, zero, suc, ◌+◌, ◌<◌, ◌≤◌, eqb, ◌⊎◌, List, [], ◌∷◌, ◌++◌, length, get_or, take, drop, set, ℤ, ◌+ℤ◌, Some, None, sum_by, Option, sym, refl, ap, ◌∙◌, subst, inl, inr, arith}
 use lib.Seq.{split_at}
 use Rattle.std.proofs.lemmas.Int.{ints}
-use Rattle.std.specs.Map.{update}
 use Rattle.std.specs.List.{insert, remove}
 use Rattle.std.specs.Option.{option_to_list}
 use Rattle.std.proofs.lemmas.List.{set_split, take-append-drop, length-append}
-use Rattle.std.proofs.lemmas.Map.{update_here, update_apart}
 use Rattle.std.proofs.lemmas.List.Sums.{sum_by-cons, sum_by-append}
 use Rattle.std.proofs.lemmas.Bool.{cases_order, cases_Bool, eqb-true, eqb-false}
 use Rattle.keyed.specs.Rows.{Rising, lookup, Stands, Gap, Below, with_row, without, put}
 use Rattle.keyed.specs.Laws.{total, Under, Changes, LookedUp, TakenBack, Place, Placed, Sized, Sums}
-use Rattle.keyed.proofs.Lookups.{rest, first, lookup_key, lookup_stands, lookup_gap, lookup_inserted, lookup_remove, lookup_replace, rising_inserted, rising_removed, rising_replaced, same_lookups}
+use Rattle.keyed.proofs.Lookups.{written, written_here, written_apart, rest, first, lookup_key, lookup_stands, lookup_gap, lookup_inserted, lookup_remove, lookup_replace, rising_inserted, rising_removed, rising_replaced, same_lookups}
 use Rattle.keyed.proofs.Puts.{inserted_is, removed_is, replaced_is, without_none}
 
 module _ {R : Type 0} (key : R → ℕ) where
@@ -46,9 +44,9 @@ module _ {R : Type 0} (key : R → ℕ) where
       ]
 
   -- ---- look-ups after a change
-  from_list : (xs ys zs : List R) (k : ℕ) (w : Option R) → ys ≡ zs → Rising key ys → ((q : ℕ) → lookup key ys q ≡ update eqb (lookup key xs) k w q) → Changes key xs zs k w
+  from_list : (xs ys zs : List R) (k : ℕ) (w : Option R) → ys ≡ zs → Rising key ys → ((q : ℕ) → lookup key ys q ≡ written (lookup key xs) k w q) → Changes key xs zs k w
   from_list xs ys zs k w e up looks =
-      let c : Changes key xs ys k w = record { rise = up; here = looks k ∙ update_here (lookup key xs) k w; others = λ q ne. looks q ∙ update_apart (lookup key xs) k w q ne } in
+      let c : Changes key xs ys k w = record { rise = up; here = looks k ∙ written_here (lookup key xs) k w; others = λ q ne. looks q ∙ written_apart (lookup key xs) k w q ne } in
       subst (λ (l : List R). Changes key xs l k w) e c
 
   with_changes : (xs : List R) (x : R) → Rising key xs → Changes key xs (with_row key xs x) (key x) (Some x)
@@ -73,7 +71,7 @@ module _ {R : Type 0} (key : R → ℕ) where
       elim (place (y ∷ ys) k up) [
         | inl p ↦
             from_list (y ∷ ys) (remove (y ∷ ys) p.0) (without key (y ∷ ys) k) k None (removed_is key (y ∷ ys) k p.0 up p.1) (rising_removed key (y ∷ ys) p.0 up p.1.within)
-            (λ q. lookup_remove key (y ∷ ys) p.0 y q up p.1.within ∙ ap (λ (m : ℕ). update eqb (lookup key (y ∷ ys)) m None q) (p.1.here y))
+            (λ q. lookup_remove key (y ∷ ys) p.0 y q up p.1.within ∙ ap (λ (m : ℕ). written (lookup key (y ∷ ys)) m None q) (p.1.here y))
         | inr p ↦ same_none (y ∷ ys) k up (lookup_gap key (y ∷ ys) k p.0 p.1)
       ]
 

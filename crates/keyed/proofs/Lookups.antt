@@ -19,6 +19,12 @@ swap q a b u v w apart =
 abbrev pub written : {R : Type 0} → (ℕ → Option R) → ℕ → Option R → ℕ → Option R
 written f k w q = cond (eqb q k) w (f q)
 
+pub written_here : {R : Type 0} (f : ℕ → Option R) (k : ℕ) (w : Option R) → written f k w k ≡ w
+written_here f k w = cond-true (eqb k k) w (f k) (eq-eqb k k refl)
+
+pub written_apart : {R : Type 0} (f : ℕ → Option R) (k : ℕ) (w : Option R) (q : ℕ) → (q ≡ k → ⊥) → written f k w q ≡ f q
+written_apart f k w q ne = cond-false (eqb q k) w (f q) (ne_eqb q k ne)
+
 module _ {R : Type 0} (key : R → ℕ) where
   -- no record has the key q
   abbrev Apart : List R → ℕ → Type 0
