@@ -1,7 +1,6 @@
 // What the figures of a portfolio are made of. The definitions are in specs/.
 #![tactic(auto)]
 
-
 // Of q units at a price P a piece makes P × (weight × q + allowance) / 10,000.
 #[derive(Clone, Copy)]
 pub struct Piece {

@@ -37,7 +37,7 @@ fn stake_of(instrument: Instrument, line: Line) -> Stake
 
 // The worth of a line: the least over its pieces.
 pub fn worth<S: RateSource>(source: &S, instrument: Instrument, line: Line) -> i128
-    ensures is { result ≡ holdings.worth (holdings.pieces_of (any_sheet (pieces source.now)) instrument) instrument.price line.planned }
+    ensures is { result ≡ holdings.worth (holdings.pieces_of (any_sheet (S.RateSource.pieces source.now)) instrument) instrument.price line.planned }
     ensures small { unsigned_abs result ≤ 10 ^ 24 }
 {
     least_value(
@@ -51,7 +51,7 @@ pub fn worth<S: RateSource>(source: &S, instrument: Instrument, line: Line) -> i
 // The least that a line can come to, with the cash of its orders. It walks the orders once to find the line's own.
 pub fn low<S: RateSource>(source: &S, instrument: Instrument, line: Line, orders: &[Order]) -> i128
     requires { length orders.now ≤ 8192 }
-    ensures is { result ≡ fillings.low (any_sheet (pieces source.now)) (one_line line.planned orders.now) instrument }
+    ensures is { result ≡ fillings.low (any_sheet (S.RateSource.pieces source.now)) (one_line line.planned orders.now) instrument }
     ensures small { unsigned_abs result ≤ 10 ^ 24 }
 {
     least_value(
@@ -65,7 +65,7 @@ pub fn low<S: RateSource>(source: &S, instrument: Instrument, line: Line, orders
 // An amount of a currency under that currency's own pieces. The rouble has none.
 pub fn shocked<S: RateSource>(source: &S, currency: u16, amount: i128) -> i128
     requires { unsigned_abs amount ≤ 10 ^ 28 }
-    ensures is { result ≡ holdings.shocked (any_sheet (pieces source.now)) currency amount }
+    ensures is { result ≡ holdings.shocked (any_sheet (S.RateSource.pieces source.now)) currency amount }
     ensures small { unsigned_abs result ≤ 3 * 10 ^ 28 }
 {
     if currency == ROUBLE {

@@ -55,7 +55,7 @@ fn piece_value(piece: Piece, stake: Stake, orders: &[Order]) -> i128
 fn piece_at<S: RateSource>(source: &S, stake: Stake, k: usize, orders: &[Order]) -> Option<i128>
     requires few { length orders.now ≤ 8192 }
     requires amount { unsigned_abs stake.amount ≤ 10 ^ 29 }
-    ensures is { result ≡ option_map (raw_of orders.now stake) (from_one (pieces source.now stake.code) k) }
+    ensures is { result ≡ option_map (raw_of orders.now stake) (from_one (S.RateSource.pieces source.now stake.code) k) }
     ensures small { Small (reach stake.amount) result }
 {
     match source.piece(stake.code, k) {
@@ -92,7 +92,7 @@ fn first_value(stake: Stake, off: bool, orders: &[Order]) -> Option<i128>
 fn least_raw<S: RateSource>(source: &S, stake: Stake, off: bool, orders: &[Order]) -> Option<i128>
     requires few { length orders.now ≤ 8192 }
     requires amount { unsigned_abs stake.amount ≤ 10 ^ 29 }
-    ensures is { result ≡ lowest (raw_of orders.now stake) (with_nought off (pieces source.now stake.code)) }
+    ensures is { result ≡ lowest (raw_of orders.now stake) (with_nought off (S.RateSource.pieces source.now stake.code)) }
     ensures small { Small (reach stake.amount) result }
 {
     let mut best = first_value(stake, off, orders);
@@ -127,7 +127,7 @@ pub(crate) fn least_value<S: RateSource>(
 ) -> i128
     requires few { length orders.now ≤ 8192 }
     requires amount { unsigned_abs stake.amount ≤ 10 ^ 29 }
-    ensures is { result ≡ least (λ p. down (raw_of orders.now stake p) 10000) (with_nought off (pieces source.now stake.code)) }
+    ensures is { result ≡ least (λ p. down (raw_of orders.now stake p) 10000) (with_nought off (S.RateSource.pieces source.now stake.code)) }
     ensures small { unsigned_abs result ≤ 2 * unsigned_abs stake.amount + 500_000_000_000_000_000_000_000 }
 {
     floored(least_raw(source, stake, off, orders))

@@ -44,7 +44,7 @@ fn line_figure<S: RateSource>(
     orders: &[Order],
 ) -> i128
     requires few { length orders.now ≤ 8192 }
-    ensures is { result ≡ line_value figure (pieces source.now) orders.now instrument line.planned }
+    ensures is { result ≡ line_value figure (S.RateSource.pieces source.now) orders.now instrument line.planned }
     ensures small { unsigned_abs result ≤ 10 ^ 24 }
 {
     match figure {
@@ -56,7 +56,7 @@ fn line_figure<S: RateSource>(
 
 fn shock<S: RateSource>(figure: Figure, source: &S, currency: u16, amount: i128) -> i128
     requires { unsigned_abs amount ≤ 10 ^ 28 }
-    ensures is { result ≡ shock_in figure (pieces source.now) currency amount }
+    ensures is { result ≡ shock_in figure (S.RateSource.pieces source.now) currency amount }
     ensures small { unsigned_abs result ≤ 3 * 10 ^ 28 }
 {
     match figure {
@@ -77,7 +77,7 @@ fn value_in<S: RateSource>(
 ) -> i128
     requires few { length orders.now ≤ 8192 }
     requires instruments { Rising instrument_code instruments.now }
-    ensures is { result ≡ value_in (line_value figure (pieces source.now) orders.now) instruments.now currency line }
+    ensures is { result ≡ value_in (line_value figure (S.RateSource.pieces source.now) orders.now) instruments.now currency line }
     ensures small { unsigned_abs result ≤ 10 ^ 24 }
 {
     let Some(instrument) = instrument_at(instruments, line.code) else {
@@ -104,7 +104,7 @@ fn equity<S: RateSource>(
     requires lines { length lines.now ≤ 8192 }
     requires apart { Apart line_code lines.now }
     requires instruments { Rising instrument_code instruments.now }
-    ensures is { result ≡ equity_in figure (pieces source.now) instruments.now lines.now orders.now currency cash }
+    ensures is { result ≡ equity_in figure (S.RateSource.pieces source.now) instruments.now lines.now orders.now currency cash }
     ensures small { unsigned_abs result ≤ 10 ^ 28 }
 {
     let mut sum = i128::from(cash);
@@ -128,7 +128,7 @@ fn currency_value<S: RateSource>(
     requires lines { length lines.now ≤ 8192 }
     requires apart { Apart line_code lines.now }
     requires instruments { Rising instrument_code instruments.now }
-    ensures is { result ≡ roubles_in figure (pieces source.now) instruments.now lines.now orders.now currency cash }
+    ensures is { result ≡ roubles_in figure (S.RateSource.pieces source.now) instruments.now lines.now orders.now currency cash }
     ensures small { unsigned_abs result ≤ 2 * 10 ^ 34 }
 {
     let whole = equity(
@@ -159,7 +159,7 @@ fn figure_of<S: RateSource>(
     requires currencies_apart { Apart (λ c. c.code) currencies.now }
     requires apart { Apart line_code lines.now }
     requires instruments { Rising instrument_code instruments.now }
-    ensures is { result ≡ figure_in figure (pieces source.now) currencies.now instruments.now lines.now orders.now cash.now }
+    ensures is { result ≡ figure_in figure (S.RateSource.pieces source.now) currencies.now instruments.now lines.now orders.now cash.now }
     ensures small { unsigned_abs result ≤ 2 ^ 120 }
 {
     let mut sum: i128 = 0;
@@ -190,7 +190,7 @@ pub fn value<S: RateSource>(
     requires currencies_apart { Apart (λ c. c.code) currencies.now }
     requires apart { Apart line_code lines.now }
     requires instruments { Rising instrument_code instruments.now }
-    ensures is { result ≡ value_of (sheet_of (pieces source.now) currencies.now instruments.now) (holding_of (cash_by currencies.now cash.now) lines.now []) }
+    ensures is { result ≡ value_of (sheet_of (S.RateSource.pieces source.now) currencies.now instruments.now) (holding_of (cash_by currencies.now cash.now) lines.now []) }
     ensures small { unsigned_abs result ≤ 2 ^ 120 }
 {
     figure_of(
@@ -219,7 +219,7 @@ pub fn worst_case<S: RateSource>(
     requires currencies_apart { Apart (λ c. c.code) currencies.now }
     requires apart { Apart line_code lines.now }
     requires instruments { Rising instrument_code instruments.now }
-    ensures is { result ≡ worst (sheet_of (pieces source.now) currencies.now instruments.now) (holding_of (cash_by currencies.now cash.now) lines.now orders.now) }
+    ensures is { result ≡ worst (sheet_of (S.RateSource.pieces source.now) currencies.now instruments.now) (holding_of (cash_by currencies.now cash.now) lines.now orders.now) }
     ensures small { unsigned_abs result ≤ 2 ^ 120 }
 {
     figure_of(
@@ -246,7 +246,7 @@ pub fn first_ratio<S: RateSource>(
     requires currencies_apart { Apart (λ c. c.code) currencies.now }
     requires apart { Apart line_code lines.now }
     requires instruments { Rising instrument_code instruments.now }
-    ensures is { result ≡ first_ratio (sheet_of (pieces source.now) currencies.now instruments.now) (holding_of (cash_by currencies.now cash.now) lines.now []) }
+    ensures is { result ≡ first_ratio (sheet_of (S.RateSource.pieces source.now) currencies.now instruments.now) (holding_of (cash_by currencies.now cash.now) lines.now []) }
     ensures small { unsigned_abs result ≤ 2 ^ 120 }
 {
     figure_of(
@@ -275,7 +275,7 @@ pub fn figures<S: RateSource>(
     requires currencies_apart { Apart (λ c. c.code) currencies.now }
     requires apart { Apart line_code lines.now }
     requires instruments { Rising instrument_code instruments.now }
-    ensures { result ≡ figures_of (sheet_of (pieces source.now) currencies.now instruments.now) (holding_of (cash_by currencies.now cash.now) lines.now orders.now) }
+    ensures { result ≡ figures_of (sheet_of (S.RateSource.pieces source.now) currencies.now instruments.now) (holding_of (cash_by currencies.now cash.now) lines.now orders.now) }
 {
     let whole = value(source, currencies, instruments, lines, cash);
     let first = first_ratio(source, currencies, instruments, lines, cash);
