@@ -6,7 +6,7 @@ ghost use Rattle.sources.specs.Keys.{posted_code};
 use crate::rows::PostedRow;
 use keyed::Table;
 
-pub(crate) mod rates;
+pub(crate) mod source;
 
 #[derive(Drop)]
 pub struct PostedRates {

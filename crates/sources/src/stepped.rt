@@ -6,7 +6,7 @@ ghost use Rattle.sources.specs.Keys.{stepped_code};
 use crate::rows::SteppedRow;
 use keyed::Table;
 
-pub(crate) mod rates;
+pub(crate) mod source;
 
 #[derive(Drop)]
 pub struct SteppedRates {

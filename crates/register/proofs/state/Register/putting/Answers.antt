@@ -19,13 +19,13 @@ overwrite-requires c =
 pub invariant_of-self : goal.invariant_of-self
 invariant_of-self c =
     let n : c.currencies.result - 0 ≡ c.args.closed.currencies = omega arith in
-    let e = c.overwrite.ensures.items ∙ ap (λ (k : ℕ). take k c.args.table.now) n in (
-      omega (arith, c.overwrite.ensures.len, c.args.self.now.few),
-      (
-        subst (λ (cs : List Currency). Rising currency_code cs) (sym e) c.requires.rising,
-        (subst (λ (cs : List Currency). incomplete (cash_sheet cs) ≡ false) (sym e) c.requires.complete, (c.args.self.now.portfolios_rise, tt)),
-      ),
-    )
+    let e = c.overwrite.ensures.items ∙ ap (λ (k : ℕ). take k c.args.table.now) n in
+    record {
+      few = omega (arith, c.overwrite.ensures.len, c.args.self.now.few);
+      currencies_rise = subst (λ (cs : List Currency). Rising currency_code cs) (sym e) c.requires.rising;
+      complete = subst (λ (cs : List Currency). incomplete (cash_sheet cs) ≡ false) (sym e) c.requires.complete;
+      portfolios_rise = c.args.self.now.portfolios_rise;
+    }
 
 pub returns : goal.returns
 returns c =

@@ -4,7 +4,7 @@ ghost use Rattle.keyed.specs.Tables.{Fresh};
 ghost use Rattle.sources.specs.Keys.{posted_code};
 ghost use Rattle.sources.specs.Entering.{Checked, Enters, Empty};
 ghost use Rattle.sources.specs.Posted.{posted, posted_count, posted_pieces, enters_posted};
-ghost use Rattle.std.proofs.Common.{rules, arith};
+ghost use Rattle.sources.specs.Rules.{posted_lawful};
 
 use super::PostedRates;
 use crate::refusals::answered;
@@ -25,7 +25,7 @@ impl RateSource for PostedRates {
 
     ghost most = { 2 };
 
-    ghost lawful = { first_of (Prim.search rules, Prim.grind (arith, Self.row.coded.inj)) };
+    ghost lawful = { posted_lawful };
 
     fn limit() -> usize {
         Self::MOST

@@ -1,6 +1,6 @@
 use Rattle.std.proofs.Common.{◌-◌, arith}
 use Rattle.sources.specs.Products.{limit_by_step}
-use Rattle.sources.proofs.stepped.rates.third.Goals as goal
+use Rattle.sources.proofs.stepped.source.third.Goals as goal
 
 pub overflow_add-result : goal.overflow_add-result
 overflow_add-result c =
