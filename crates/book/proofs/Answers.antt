@@ -1,5 +1,5 @@
 -- An answer is that of the first check that fails.
-use Rattle.std.proofs.Common.{◌≡◌, Bool, true, false, cond, Ok, Err, Result, sym, ◌∙◌}
+use Rattle.std.proofs.Common.{◌≡◌, Bool, true, false, cond, Err, Result, sym, ◌∙◌}
 use Rattle.std.proofs.lemmas.Bool.{cond-true, cond-false}
 
 module _ {X F : Type 0} (b : Bool) (f : F) (rest : Result X F) where

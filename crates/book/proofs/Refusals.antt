@@ -1,5 +1,5 @@
 -- What the refusal of a number outside its range says.
-use Rattle.std.proofs.Common.{◌≡◌, ℕ, Bool, true, false, cond, Ok, Err, Result, refl, ap, arith}
+use Rattle.std.proofs.Common.{◌≡◌, ℕ, Bool, true, false, cond, Ok, Err, refl, ap, arith}
 use Rattle.book.specs.declared.faults.FieldCause.TheVariants.{Range}
 use Rattle.book.specs.declared.faults.FieldFault.{FieldFault}
 use Rattle.book.specs.Faults.{fault}

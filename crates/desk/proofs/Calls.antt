@@ -1,5 +1,5 @@
 -- A call of the register that is in force, answered and left as the register says.
-use Rattle.std.proofs.Common.{◌≡◌, Some, None, Ok, Err, Option, Result, sym, refl, ap, ◌∙◌, subst, MatchResult}
+use Rattle.std.proofs.Common.{◌≡◌, Some, None, Ok, Err, Option, Result, sym, ap, ◌∙◌, subst, MatchResult}
 use Rattle.register.specs.declared.faults.RegisterFault.{RegisterFault}
 use Rattle.register.specs.declared.state.Register.{Register}
 use Rattle.register.specs.State.{Unchanged}

@@ -20,7 +20,7 @@ use Rattle.register.specs.declared.state.Register.{Register}
 use Rattle.register.specs.Faults.{fault_at}
 use Rattle.register.specs.State.{Unchanged, Opens, Pays, Puts, Begins}
 use Rattle.register.specs.Answers.{opens, pays_in, pays_out, tells, puts}
-use Rattle.register.specs.Runs.{said, said_figures, said_put, Reached, Run}
+use Rattle.register.specs.Runs.{said, said_figures, said_put, Run}
 use Rattle.rules.specs.Calls as calls
 use Rattle.rules.specs.Histories.{History, Places, opened_with, asked}
 use Rattle.desk.specs.declared.replies.Outcome.{Outcome}

@@ -1,8 +1,7 @@
 -- The figures of cash alone are sums over the places of the currencies.
-use Rattle.std.proofs.Common.{◌≡◌, ℕ, ◌≤◌, cond, eqb, List, length, ℤ, pos, ◌+ℤ◌, ◌*ℤ◌, sym, refl, ap, ◌∙◌}
+use Rattle.std.proofs.Common.{◌≡◌, ◌≤◌, cond, eqb, List, length, ℤ, pos, ◌*ℤ◌, sym, refl, ap, ◌∙◌}
 use Rattle.margin.specs.declared.Currency.{Currency}
-use Rattle.margin.specs.declared.Figures.{Figures}
-use Rattle.margin.specs.Numbers.{down, total}
+use Rattle.margin.specs.Numbers.{down}
 use Rattle.margin.specs.Sheets.{Apart}
 use Rattle.margin.specs.Holdings.{value_of, first_ratio}
 use Rattle.margin.specs.Figures.{figures_of}

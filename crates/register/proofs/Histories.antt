@@ -1,18 +1,12 @@
 -- What a history of cash says after one more call, and what its register then holds.
-use Rattle.std.proofs.Common.{◌≡◌, ℕ, ◌+◌, Bool, true, false, cond, not, ◌&&◌, ◌||◌, eqb, List, [], ◌∷◌, ◌++◌, length, ℤ, pos, ◌+ℤ◌, is_some, vec_items, filter, Vec, sym, refl, ap, ◌∙◌, arith}
-use borrow.Author.Differences.{ints}
+use Rattle.std.proofs.Common.{◌≡◌, ℕ, Bool, not, eqb, List, [], ◌++◌, length, ℤ, pos, ◌+ℤ◌, is_some, vec_items, filter, Vec, sym, ap, ◌∙◌}
 use Rattle.std.specs.declared.alloc.Global.{Global}
-use Rattle.std.proofs.lemmas.Bool.{eq-eqb}
 use Rattle.keyed.specs.declared.table.Table.{Table}
 use Rattle.keyed.specs.Tables.{entries, room, holds}
 use Rattle.margin.specs.declared.Currency.{Currency}
-use Rattle.margin.specs.declared.Order.{Order}
 use Rattle.margin.specs.Numbers.{any}
-use Rattle.margin.specs.Sheets.{Sheet}
-use Rattle.margin.specs.Holdings.{Holding}
 use Rattle.margin.specs.Cash.{cash_sheet, cash_holding}
-use Rattle.margin.proofs.Integers.{add_nought}
-use Rattle.rules.specs.Calls.{Call, Answer, accepted, told, refused, open_portfolio}
+use Rattle.rules.specs.Calls.{Call}
 use Rattle.rules.specs.Histories as histories
 use Rattle.rules.specs.Histories.{History, asked, Spot, same_spot}
 use Rattle.rules.specs.Rules.{then}
@@ -21,8 +15,7 @@ use Rattle.rules.proofs.Every.{every_run_is_lawful}
 use Rattle.register.specs.Keys.{portfolio_number}
 use Rattle.register.specs.declared.records.Portfolio.{Portfolio}
 use Rattle.register.specs.declared.state.Register.{Register}
-use Rattle.register.specs.State.{currencies, in_force, portfolio, is_open, cash_in, cash, holding, open_count, places, Unchanged, Opens, Pays}
-use Rattle.register.specs.Answers.{paid, with_paid}
+use Rattle.register.specs.State.{currencies, in_force, portfolio, is_open, cash_in, cash, holding, open_count, places, Unchanged}
 use Rattle.register.specs.Runs.{Holds, Reached, Run}
 
 -- what a portfolio holds

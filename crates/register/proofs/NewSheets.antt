@@ -1,27 +1,25 @@
 -- Opening and putting in force, as the beginning and a step of a history.
-use Rattle.std.proofs.Common.{◌≡◌, ℕ, Bool, true, false, cond, not, ◌&&◌, ◌||◌, eqb, List, [], ◌∷◌, length, ℤ, pos, is_some, IfOk, Some, None, Ok, Err, Option, Result, sym, refl, ap, ◌∙◌, subst, arith, MatchResult}
+use Rattle.std.proofs.Common.{◌≡◌, ℕ, Bool, true, false, not, ◌||◌, eqb, List, [], ◌∷◌, pos, is_some, IfOk, Some, None, Ok, Err, Option, Result, sym, refl, ap, ◌∙◌, subst, arith, MatchResult}
 use Rattle.std.proofs.lemmas.Bool.{eqb-true, and_parts, or_parts, both_ways, cond-true, cond-false}
 use Rattle.keyed.specs.Rows.{Rising}
 use Rattle.margin.specs.declared.Currency.{Currency}
 use Rattle.margin.specs.Numbers.{any}
 use Rattle.margin.specs.Sheets.{Sheet, Closed, instrument_at}
-use Rattle.margin.specs.Holdings.{Holding}
 use Rattle.margin.specs.Limits.{over_gross}
 use Rattle.margin.specs.Cash.{cash_sheet}
 use Rattle.margin.specs.Keys.{currency_code}
 use Rattle.margin.proofs.Integers.{add_nought}
-use Rattle.rules.specs.Calls.{Call, Answer, accepted, refused, put_in_force}
+use Rattle.rules.specs.Calls.{put_in_force}
 use Rattle.rules.specs.Histories as histories
 use Rattle.rules.specs.Histories.{History, Places, opened_with, asked, Spot}
-use Rattle.rules.specs.Rules.{then, ruled, Ruled, gross_over, does_not_fit, other_currencies, currency_changed}
+use Rattle.rules.specs.Rules.{then, ruled, gross_over, does_not_fit, other_currencies, currency_changed}
 use Rattle.rules.proofs.Grosses.{within_limit}
 use Rattle.sheet.specs.declared.drafts.ClosedSheet.{ClosedSheet}
 use Rattle.sheet.specs.Drafts.{incomplete, has_unrated, has_rouble_at_par, at_par, unrated, AsClosed, closed_entries}
 use Rattle.register.specs.declared.faults.RegisterFault.{RegisterFault}
 use Rattle.register.specs.declared.records.Portfolio.{Portfolio}
 use Rattle.register.specs.declared.state.Register.{Register}
-use Rattle.register.specs.Faults.{fault_number}
-use Rattle.register.specs.State.{currencies, in_force, portfolio, is_open, cash_in, cash, holding, open_count, places, Unchanged, Begins, Puts}
+use Rattle.register.specs.State.{currencies, in_force, portfolio, cash_in, cash, Unchanged, Begins, Puts}
 use Rattle.register.specs.Answers.{puts, same_codes}
 use Rattle.register.specs.Runs.{said_put, Holds, Reached, Run}
 use Rattle.register.proofs.Histories.{holding_is, IdleButCash, holding_then, holds_then, same_holds, run}

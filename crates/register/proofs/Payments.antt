@@ -10,8 +10,6 @@ use Rattle.keyed.specs.Rows.{Stands}
 use Rattle.margin.specs.declared.Currency.{Currency}
 use Rattle.margin.specs.Keys.{currency_code}
 use Rattle.margin.specs.Numbers.{any, the_first}
-use Rattle.margin.specs.Sheets.{Sheet}
-use Rattle.margin.specs.Holdings.{Holding}
 use Rattle.margin.specs.Limits.{over_gross, worsens}
 use Rattle.margin.specs.Cash.{cash_sheet, cash_by, cash_holding}
 use Rattle.register.specs.declared.faults.RegisterCause.TheVariants.{NoPortfolio, CodeMissing, Gross, WorstCase}

@@ -1,5 +1,5 @@
 -- Each call of the register, as a step of a history.
-use Rattle.std.proofs.Common.{◌≡◌, ℕ, ◌+◌, Bool, true, false, cond, not, ◌&&◌, ◌||◌, eqb, leb, List, [], ◌∷◌, length, ℤ, pos, ◌+ℤ◌, neg_ℤ, is_some, Ok, Err, Result, sym, refl, ap, ◌∙◌, arith, MatchResult}
+use Rattle.std.proofs.Common.{◌≡◌, ℕ, Bool, true, false, cond, not, ◌&&◌, ◌||◌, eqb, leb, length, ℤ, pos, ◌+ℤ◌, neg_ℤ, is_some, Ok, Err, Result, sym, refl, ap, ◌∙◌, arith, MatchResult}
 use Rattle.std.proofs.lemmas.Bool.{eq-eqb}
 use Rattle.margin.specs.declared.Figures.{Figures}
 use Rattle.margin.specs.Sheets.{Sheet, currency_at}

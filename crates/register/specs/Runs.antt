@@ -1,5 +1,5 @@
 -- A register after a history of calls. The names of histories stand behind `histories.`; those of the register alone.
-use Rattle.std.specs.Prelude.{◌≡◌, ℕ, List, [], length, ℤ, pos, Ok, Err, Result}
+use Rattle.std.specs.Prelude.{◌≡◌, ℕ, [], length, pos, Ok, Err, Result}
 use Rattle.margin.specs.declared.Figures.{Figures}
 use Rattle.rules.specs.Calls.{Answer, accepted, told, refused}
 use Rattle.rules.specs.Histories as histories

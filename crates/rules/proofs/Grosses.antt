@@ -11,7 +11,7 @@ use Rattle.margin.specs.Sheets.{Sheet}
 use Rattle.margin.specs.Orders.{on}
 use Rattle.margin.specs.Limits.{gross, gross_limit, highest, cover, over_gross}
 use Rattle.rules.specs.Calls.{Call, accepted, told, given, refused, open_portfolio, pay_in, pay_out, deliver_in, deliver_out, place, fill, cancel, figures, take_notice, record_paper, put_back, put_in_force}
-use Rattle.rules.specs.Histories.{History, opened_with, asked, orders, portfolios, is_open, cash, planned, in_force, standing, line_exists, lines, holding, owner}
+use Rattle.rules.specs.Histories.{History, opened_with, asked, orders, portfolios, is_open, cash, planned, in_force, standing, line_exists, holding, owner}
 use Rattle.rules.specs.Rules.{then, Ruled, gross_over}
 use Rattle.rules.specs.Laws.{PassesEarlier, GrossKept, concerns}
 use Rattle.margin.proofs.Grosses.{over_within, none_held, none_over, Within, open_on, highest_kept}

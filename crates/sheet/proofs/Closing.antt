@@ -1,11 +1,10 @@
 -- The answer to a closing by what the entries are.
-use Rattle.std.proofs.Common.{◌≡◌, ℕ, ◌≤◌, min, Bool, true, false, List, length, take, Ok, Err, Result, sym, refl, ap, ◌∙◌, subst, arith}
+use Rattle.std.proofs.Common.{◌≡◌, ℕ, min, true, false, List, length, take, Ok, Err, sym, ap, ◌∙◌, subst, arith}
 use Rattle.std.proofs.lemmas.Bool.{cond-true, cond-false}
 use Rattle.keyed.specs.Rows.{Rising}
 use Rattle.margin.specs.declared.Currency.{Currency}
 use Rattle.margin.specs.Cash.{cash_sheet}
 use Rattle.margin.specs.Keys.{currency_code}
-use Rattle.sheet.specs.declared.drafts.ClosedSheet.{ClosedSheet}
 use Rattle.sheet.specs.declared.drafts.Draft.{Draft}
 use Rattle.sheet.specs.declared.faults.SheetCause.TheVariants.{Incomplete}
 use Rattle.sheet.specs.declared.faults.SheetFault.{SheetFault}

@@ -1,5 +1,5 @@
 -- The value of a piece in ten-thousandths fits 128 bits.
-use Rattle.std.proofs.Common.{ℕ, ◌+◌, ◌*◌, ◌^◌, ◌<◌, ◌≤◌, ℤ, pos, ◌+ℤ◌, ◌-ℤ◌, ◌*ℤ◌, nat_abs, le_refl, mul-le-mul, arith, SFits}
+use Rattle.std.proofs.Common.{ℕ, ◌*◌, ◌^◌, ◌<◌, ◌≤◌, ℤ, pos, ◌+ℤ◌, ◌-ℤ◌, ◌*ℤ◌, nat_abs, le_refl, mul-le-mul, arith, SFits}
 use mir.Syntax.{w128}
 use borrow.Author.Differences.{ints}
 use Rattle.margin.specs.declared.Side.{Side}

@@ -1,4 +1,4 @@
-use Rattle.std.proofs.Common.{ℕ, List, take, drop, ap, ◌∙◌, drop-drop}
+use Rattle.std.proofs.Common.{take, drop, ap, ◌∙◌, drop-drop}
 use Rattle.book.specs.Numbers.{number}
 use Rattle.book.proofs.reader.payment.Goals as goal
 

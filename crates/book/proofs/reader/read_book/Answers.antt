@@ -1,4 +1,4 @@
-use Rattle.std.proofs.Common.{◌≡◌, ℕ, ◌-◌, List, ◌++◌, map, length, take, is_ok, ap, ◌∙◌, arith, length-take}
+use Rattle.std.proofs.Common.{ℕ, ◌-◌, List, ◌++◌, map, length, take, is_ok, ap, ◌∙◌, arith, length-take}
 use Rattle.std.proofs.ResultArms.{chosen}
 use Rattle.book.specs.Book.{Front, fields_of, seen}
 use Rattle.book.specs.declared.reader.Item.{Item}

@@ -1,11 +1,9 @@
-use Rattle.std.proofs.Common.{◌≡◌, ℕ, ◌<◌, List, length, get_or, take, ℤ, pos, ◌*ℤ◌, sym, ap, ◌∙◌, arith, w64, SFits, rules}
+use Rattle.std.proofs.Common.{◌≡◌, List, get_or, take, ℤ, pos, ◌*ℤ◌, ap, ◌∙◌, arith, w64, SFits, rules}
 use borrow.Author.Differences.{ints}
-use mir.Syntax.{w128}
 use Rattle.std.proofs.lemmas.List.{take_all}
 use Rattle.std.proofs.lemmas.Int.{to_z-of_z}
 use Rattle.margin.specs.declared.Currency.{Currency}
 use Rattle.margin.specs.Numbers.{down}
-use Rattle.margin.specs.Cash.{figures_from}
 use Rattle.margin.proofs.Places.{by_place, by_place_more}
 use Rattle.margin.proofs.CashFigures.{valued, at_risk, cash_figures_are}
 use Rattle.margin.proofs.cash.cash_figures.Goals as goal

@@ -1,5 +1,4 @@
-use Rattle.std.proofs.Common.{◌-ℤ◌, arith, SFits, rules}
-use borrow.Author.Differences.{ints}
+use Rattle.std.proofs.Common.{◌-ℤ◌, SFits, rules}
 use mir.Syntax.{w128}
 use Rattle.std.proofs.lemmas.Int.{to_z-of_z}
 use Rattle.margin.proofs.cash.figures_from.Goals as goal

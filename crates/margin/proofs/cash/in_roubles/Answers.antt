@@ -1,9 +1,6 @@
-use Rattle.std.proofs.Common.{◌≡◌, ◌^◌, ◌≤◌, ℤ, pos, ◌*ℤ◌, nat_abs, sym, ap, ◌∙◌, subst, arith, SFits, rules}
+use Rattle.std.proofs.Common.{◌^◌, pos, ◌*ℤ◌, arith, SFits, rules}
 use borrow.Author.Differences.{ints}
 use mir.Syntax.{w128}
-use Rattle.std.specs.Int.{int_div_euclid}
-use Rattle.std.proofs.lemmas.Int.{to_z-of_z}
-use Rattle.margin.specs.Numbers.{down}
 use Rattle.margin.proofs.Sizes.{product_size, down_size, size_fits, euclid_down}
 use Rattle.margin.proofs.cash.in_roubles.Goals as goal
 

@@ -1,4 +1,4 @@
-use Rattle.std.proofs.Common.{◌≤◌, sym, ◌∙◌, rules}
+use Rattle.std.proofs.Common.{◌≤◌, sym, ◌∙◌}
 use Rattle.valuation.proofs.Lowests.{all_from_one, some_from_one}
 use Rattle.valuation.proofs.pieces.piece_at.Goals as goal
 

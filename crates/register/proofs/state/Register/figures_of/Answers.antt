@@ -1,4 +1,4 @@
-use Rattle.std.proofs.Common.{◌≡◌, ◌≤◌, List, length, sym, ap, ◌∙◌, subst, arith}
+use Rattle.std.proofs.Common.{List, sym, ap, ◌∙◌, subst, arith}
 use Rattle.margin.specs.declared.Currency.{Currency}
 use Rattle.margin.specs.Sheets.{Apart}
 use Rattle.margin.specs.Cash.{cash_sheet, cash_by, cash_holding}

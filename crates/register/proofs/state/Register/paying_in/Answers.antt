@@ -1,5 +1,4 @@
-use Rattle.std.proofs.Common.{◌≡◌, ◌≤◌, List, length, ℤ, pos, Err, sym, refl, ap, ◌∙◌, subst, arith, w64, to_z, rules}
-use borrow.Author.Differences.{ints}
+use Rattle.std.proofs.Common.{◌≡◌, ◌≤◌, List, length, ℤ, pos, Err, sym, refl, ap, ◌∙◌, subst, w64, to_z, rules}
 use Rattle.book.proofs.Refusals.{not_refused}
 use Rattle.register.specs.State.{currencies}
 use Rattle.register.specs.Writes.{Writes}

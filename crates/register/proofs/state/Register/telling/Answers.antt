@@ -1,11 +1,11 @@
-use Rattle.std.proofs.Common.{◌≡◌, ℕ, not, ℤ, is_some, Ok, Err, sym, refl, ap, ◌∙◌}
+use Rattle.std.proofs.Common.{ℕ, not, ℤ, is_some, Ok, sym, ap, ◌∙◌}
 use Rattle.book.proofs.Answers.{passes}
 use Rattle.book.proofs.Refusals.{not_refused}
 use Rattle.margin.specs.Cash.{cash_holding}
 use Rattle.margin.specs.Figures.{figures_of}
 use Rattle.register.specs.declared.faults.RegisterCause.TheVariants.{NoPortfolio}
 use Rattle.register.specs.Faults.{out_of_range, refusal}
-use Rattle.register.specs.State.{in_force, cash}
+use Rattle.register.specs.State.{in_force}
 use Rattle.register.proofs.Payments.{cash_of_row}
 use Rattle.register.proofs.state.Register.telling.Goals as goal
 

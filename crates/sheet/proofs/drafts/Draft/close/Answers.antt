@@ -1,4 +1,4 @@
-use Rattle.std.proofs.Common.{sym, ◌∙◌, arith}
+use Rattle.std.proofs.Common.{arith}
 use Rattle.book.proofs.Fronts.{taken}
 use Rattle.sheet.proofs.Closing.{refused, closed, as_closed}
 use Rattle.sheet.proofs.drafts.Draft.close.Goals as goal

@@ -1,4 +1,4 @@
-use Rattle.std.proofs.Common.{◌≡◌, false, ◌||◌, Ok, Err, refl, ap, ◌∙◌, arith}
+use Rattle.std.proofs.Common.{◌||◌, Err, refl, ap, ◌∙◌, arith}
 use Rattle.book.specs.Ranges.{no_currency, no_fx}
 use Rattle.book.proofs.Refusals.{not_refused}
 use Rattle.sheet.proofs.Entering.{entered, full, room, put_in}
