@@ -1,7 +1,7 @@
 -- A fill at the order's own price or better never lowers the worst case.
 use Rattle.std.proofs.Common.{◌≡◌, ℕ, ◌-◌, ◌*◌, ◌<◌, ◌≤◌, min, max, Bool, true, false, cond, ◌&&◌, ◌||◌, eqb, ltb, List, [], ◌∷◌, length, ℤ, pos, ◌+ℤ◌, ◌-ℤ◌, ◌*ℤ◌, neg_ℤ, ◌≤ℤ◌, Some, refl, ap, ◌∙◌, ap₂, le_refl, mul-le-mul_left, arith}
 use Rattle.std.specs.Int.{int_min}
-use Rattle.std.specs.List.{AllByRecursion as All}
+use Rattle.std.specs.List.{AllByRecursion}
 use Rattle.std.proofs.ByRecursion.{All-weaker}
 use Rattle.std.proofs.lemmas.Int.{ints}
 use Rattle.std.proofs.lemmas.Bool.{eqb-true, ltb-false}
@@ -95,7 +95,7 @@ sum_apart code c D (i ∷ is) a = go (eqb code i.code && eqb c i.currency) refl 
     other : (m : Instrument) → eqb code i.code && eqb c i.currency ≡ true → eqb i.code m.code ≡ false → (eqb code m.code && eqb c m.currency) ≡ false
     other m t d = grind (arith, nat_tests)
 
-    none : (ms : List Instrument) → All (λ m. (eqb code m.code && eqb c m.currency) ≡ false) ms → total (λ i. cond (eqb code i.code && eqb c i.currency) D (pos 0)) ms ≡ pos 0
+    none : (ms : List Instrument) → AllByRecursion (λ m. (eqb code m.code && eqb c m.currency) ≡ false) ms → total (λ i. cond (eqb code i.code && eqb c i.currency) D (pos 0)) ms ≡ pos 0
     none [] t = refl
     none (m ∷ ms) t = ap₂ (λ b z. cond b D (pos 0) +ℤ z) t.0 (none ms t.1)
 

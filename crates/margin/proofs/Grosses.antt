@@ -1,6 +1,6 @@
 -- A holding that is no larger in any part has no greater gross.
 use Rattle.std.proofs.Common.{◌≡◌, ℕ, ◌+◌, ◌≤◌, Bool, true, false, cond, ◌&&◌, eqb, ltb, List, [], ◌∷◌, pos, nat_abs, filter, ap, mul-le-mul, arith}
-use Rattle.std.specs.List.{AllByRecursion as All}
+use Rattle.std.specs.List.{AllByRecursion}
 use Rattle.std.proofs.ByRecursion.{All-weaker}
 use Rattle.std.proofs.lemmas.Bool.{and_parts, and_from, ltb-false, le-ltb}
 use Rattle.margin.specs.declared.Currency.{Currency}
@@ -66,13 +66,13 @@ none_held = record { cash = λ c. pos 0; planned = λ k. pos 0; lines = []; orde
 none_of : (s : Sheet) (c : ℕ) → held s none_held c ≡ []
 none_of s c = kept_none _ s.instruments (all_no s.instruments)
   where
-    all_no : (is : List Instrument) → All (λ i. (eqb c i.currency && false) ≡ false) is
+    all_no : (is : List Instrument) → AllByRecursion (λ i. (eqb c i.currency && false) ≡ false) is
     all_no [] = tt
     all_no (i ∷ is) = (by_test (eqb c i.currency) (λ y. rw y) (λ n. rw n), all_no is)
 
 pub none_over : (s : Sheet) → over_gross s none_held ≡ false
 none_over s = any_none _ s.currencies (all s.currencies)
   where
-    all : (cs : List Currency) → All (λ c. ltb gross_limit (gross s none_held c.code) ≡ false) cs
+    all : (cs : List Currency) → AllByRecursion (λ c. ltb gross_limit (gross s none_held c.code) ≡ false) cs
     all [] = tt
     all (c ∷ cs) = (ap (λ l. ltb gross_limit (0 + count (gross_of_line s none_held) l)) (none_of s c.code), all cs)

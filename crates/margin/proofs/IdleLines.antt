@@ -1,7 +1,7 @@
 -- Lines with nothing planned and no order count for nothing: sums over the sheet's instruments, with a test on codes in place of the lines.
 use Rattle.std.proofs.Common.{◌≡◌, ℕ, ◌+◌, ◌*◌, Bool, true, false, cond, ◌&&◌, eqb, ◌⊎◌, List, [], ◌∷◌, ℤ, pos, ◌+ℤ◌, ◌*ℤ◌, nat_abs, ◌≤ℤ◌, filter, sym, refl, ap, ◌∙◌, ap₂, inl, inr, arith}
 use Rattle.std.specs.Int.{int_min}
-use Rattle.std.specs.List.{AllByRecursion as All}
+use Rattle.std.specs.List.{AllByRecursion}
 use Rattle.std.proofs.ByRecursion.{All-weaker}
 use Rattle.std.proofs.lemmas.Int.{ints}
 use Rattle.std.proofs.lemmas.Bool.{or_parts, cond-false}
@@ -63,7 +63,7 @@ module _ (s : Sheet) where
   abbrev pub KeptRules : Instrument → Type 0
   KeptRules i = KeepsTheRules (s.pieces i.code)
 
-  pub all_kept_rules : Closed s → All KeptRules s.instruments
+  pub all_kept_rules : Closed s → AllByRecursion KeptRules s.instruments
   all_kept_rules c = All-weaker (λ i. known s i.code ≡ true) KeptRules (λ i k. c.source_keeps_the_rules i.code k) s.instruments c.instruments_rated
 
   pub worth_idle : (h : Holding) (i : Instrument) → KeptRules i → Idle h i.code → worth (pieces_of s i) i.price (h.planned i.code) ≡ pos 0
@@ -94,7 +94,7 @@ module _ (s : Sheet) where
       none true = e
       none false = refl
 
-  pub sum_alike : (h : Holding) (t u : ℕ → Bool) (v : Instrument → ℤ) → Alike h t u → All (λ i. Idle h i.code → v i ≡ pos 0) s.instruments → (c : ℕ) → sum_on t v c ≡ sum_on u v c
+  pub sum_alike : (h : Holding) (t u : ℕ → Bool) (v : Instrument → ℤ) → Alike h t u → AllByRecursion (λ i. Idle h i.code → v i ≡ pos 0) s.instruments → (c : ℕ) → sum_on t v c ≡ sum_on u v c
   sum_alike h t u v a z c = sum_same_all _ _ s.instruments (All-weaker (λ i. Idle h i.code → v i ≡ pos 0) _ (λ i k. if_alike (eqb c i.currency) (t i.code) (u i.code) (v i) (either (a i.code) k)) s.instruments z)
     where
       either : {A B C : Type 0} → A ⊎ B → (B → C) → A ⊎ C
@@ -112,7 +112,7 @@ module _ (s : Sheet) where
   low_same h k r i = ap₂ (λ q os. lowest (pieces_of s i) i q os) (r.planned i.code) r.orders
 
   -- of any value of lines that the planned quantity and the orders make, and that is nought where both are
-  relined : (h k : Holding) → SameButIdleLines h k → (v w : Instrument → ℤ) → ((i : Instrument) → v i ≡ w i) → All (λ i. Idle h i.code → v i ≡ pos 0) s.instruments → (c : ℕ) → h.cash c +ℤ sum_on (lined h) v c ≡ k.cash c +ℤ sum_on (lined k) w c
+  relined : (h k : Holding) → SameButIdleLines h k → (v w : Instrument → ℤ) → ((i : Instrument) → v i ≡ w i) → AllByRecursion (λ i. Idle h i.code → v i ≡ pos 0) s.instruments → (c : ℕ) → h.cash c +ℤ sum_on (lined h) v c ≡ k.cash c +ℤ sum_on (lined k) w c
   relined h k r v w e z c = ap₂ ◌+ℤ◌ (r.cash c) (sum_alike h (lined h) (lined k) v r.lines z c ∙ sum_same _ _ (λ i. ap (λ x. cond (eqb c i.currency && lined k i.code) x (pos 0)) (e i)) s.instruments)
 
   pub worst_relined : Closed s → (h k : Holding) → SameButIdleLines h k → worst s h ≡ worst s k

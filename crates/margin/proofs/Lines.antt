@@ -2,7 +2,7 @@
 use Rattle.std.proofs.Common.{◌≡◌, ℕ, ◌*◌, ◌<◌, ◌≤◌, Bool, true, false, cond, List, [], ◌∷◌, length, ℤ, pos, ◌+ℤ◌, ◌-ℤ◌, ◌*ℤ◌, ◌≤ℤ◌, refl, ap, ap₂, arith}
 use lib.Signed.{≤ℤ_refl}
 use Rattle.std.specs.Int.{int_min}
-use Rattle.std.specs.List.{AllByRecursion as All}
+use Rattle.std.specs.List.{AllByRecursion}
 use Rattle.std.proofs.ByRecursion.{All-weaker}
 use Rattle.std.proofs.lemmas.Int.{ints}
 use Rattle.margin.specs.declared.Instrument.{Instrument}
@@ -70,7 +70,7 @@ pub if_same : (b : Bool) (x y : ℤ) → (b ≡ true → x ≡ y) → cond b x (
 if_same true x y h = h refl
 if_same false x y h = refl
 
-pub line_bound : (ps : List Piece) → 0 < length ps → (i : Instrument) (q : ℤ) (os : List Order) (f : Filling) → All (λ o. f o ≤ o.left) os → lowest ps i q os ≤ℤ value ps i q os f
+pub line_bound : (ps : List Piece) → 0 < length ps → (i : Instrument) (q : ℤ) (os : List Order) (f : Filling) → AllByRecursion (λ o. f o ≤ o.left) os → lowest ps i q os ≤ℤ value ps i q os f
 line_bound [] n i q os f a = absurd (omega arith)
 line_bound (p ∷ ps) n i q os f a =
     rw (value_is p ps i q os f)

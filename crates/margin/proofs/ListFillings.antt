@@ -1,6 +1,6 @@
 -- Fillings as functions of orders and as lists of numbers.
 use Rattle.std.proofs.Common.{◌≡◌, ℕ, ◌*◌, ◌≤◌, false, cond, eqb, List, [], ◌∷◌, map, ℤ, pos, ◌+ℤ◌, ◌-ℤ◌, refl, ap, ◌∙◌, ap₂}
-use Rattle.std.specs.List.{AllByRecursion as All}
+use Rattle.std.specs.List.{AllByRecursion}
 use Rattle.std.proofs.lemmas.Bool.{eq-eqb, cond-true, cond-false}
 use Rattle.margin.specs.declared.Order.{Order}
 use Rattle.margin.specs.Numbers.{total}
@@ -11,7 +11,7 @@ use Rattle.margin.specs.Fillings.{Filling, Allowed, filled, FitsEach, total_each
 use Rattle.margin.specs.Facts.{FillingsAreLists}
 use Rattle.margin.proofs.Sums.{sum_same}
 
-fits : (os : List Order) (f : Filling) → All (λ o. f o ≤ o.left) os → FitsEach os (map f os)
+fits : (os : List Order) (f : Filling) → AllByRecursion (λ o. f o ≤ o.left) os → FitsEach os (map f os)
 fits [] f a = tt
 fits (o ∷ os) f a = (a.0, fits os f a.1)
 
@@ -28,18 +28,18 @@ same s h f = λ i. record {
   orders = h.orders;
 }
 
-map_all : {X Y : Type 0} (f g : X → Y) (xs : List X) → All (λ x. f x ≡ g x) xs → map f xs ≡ map g xs
+map_all : {X Y : Type 0} (f g : X → Y) (xs : List X) → AllByRecursion (λ x. f x ≡ g x) xs → map f xs ≡ map g xs
 map_all f g [] h = refl
 map_all f g (x ∷ xs) h = ap₂ ◌∷◌ h.0 (map_all f g xs h.1)
 
 -- each order is told from the others by its number
-found : (os : List Order) → Apart (λ o. o.number) os → (ns : List ℕ) → FitsEach os ns → (f : Filling) × All (λ o. f o ≤ o.left) os × (map f os ≡ ns)
+found : (os : List Order) → Apart (λ o. o.number) os → (ns : List ℕ) → FitsEach os ns → (f : Filling) × AllByRecursion (λ o. f o ≤ o.left) os × (map f os ≡ ns)
 found [] a [] h = ((λ o. 0), tt, refl)
 found [] a (n ∷ ns) h = absurd h
 found (o ∷ os) a [] h = absurd h
 found (o ∷ os) a (n ∷ ns) h = more (found os a.1 ns h.1)
   where
-    more : (f : Filling) × All (λ o. f o ≤ o.left) os × (map f os ≡ ns) → (f : Filling) × All (λ o. f o ≤ o.left) (o ∷ os) × (map f (o ∷ os) ≡ n ∷ ns)
+    more : (f : Filling) × AllByRecursion (λ o. f o ≤ o.left) os × (map f os ≡ ns) → (f : Filling) × AllByRecursion (λ o. f o ≤ o.left) (o ∷ os) × (map f (o ∷ os) ≡ n ∷ ns)
     more (f, b, e) = (
       g,
       (here_le, others_le os a.0 b),
@@ -55,11 +55,11 @@ found (o ∷ os) a (n ∷ ns) h = more (found os a.1 ns h.1)
         here_le : g o ≤ o.left
         here_le = rw here h.0
 
-        others : (rs : List Order) → All (λ r. eqb o.number r.number ≡ false) rs → All (λ r. g r ≡ f r) rs
+        others : (rs : List Order) → AllByRecursion (λ r. eqb o.number r.number ≡ false) rs → AllByRecursion (λ r. g r ≡ f r) rs
         others [] t = tt
         others (r ∷ rs) t = (cond-false (eqb o.number r.number) _ _ t.0, others rs t.1)
 
-        others_le : (rs : List Order) → All (λ r. eqb o.number r.number ≡ false) rs → All (λ r. f r ≤ r.left) rs → All (λ r. g r ≤ r.left) rs
+        others_le : (rs : List Order) → AllByRecursion (λ r. eqb o.number r.number ≡ false) rs → AllByRecursion (λ r. f r ≤ r.left) rs → AllByRecursion (λ r. g r ≤ r.left) rs
         others_le [] t k = tt
         others_le (r ∷ rs) t k = (rw (cond-false (eqb o.number r.number) n (f r) t.0) k.0, others_le rs t.1 k.1)
 

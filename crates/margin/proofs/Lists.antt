@@ -1,6 +1,6 @@
 -- Tests, filters and members of lists.
 use Rattle.std.proofs.Common.{◌≡◌, ℕ, zero, suc, ◌<◌, Bool, true, false, cond, ◌⊎◌, List, [], ◌∷◌, ◌++◌, length, get_or, filter, sym, refl, ap, ◌∙◌, subst, inl, inr, ⊎_elim, arith}
-use Rattle.std.specs.List.{ContainsAt as Has, AllByRecursion as All}
+use Rattle.std.specs.List.{ContainsAt as Has, AllByRecursion}
 use Rattle.std.proofs.lemmas.Bool.{cond_both, or_parts, or_cases, or_left, or_right, both_ways}
 use Rattle.margin.specs.Numbers.{any}
 
@@ -26,19 +26,19 @@ pub has_none : {X : Type 0} (x : X) → Has [] x → ⊥
 has_none x h = omega (arith, h.1)
 
 module _ {X : Type 0} (t : X → Bool) where
-  pub kept_same : (xs : List X) → All (λ x. t x ≡ true) xs → filter t xs ≡ xs
+  pub kept_same : (xs : List X) → AllByRecursion (λ x. t x ≡ true) xs → filter t xs ≡ xs
   kept_same [] a = refl
   kept_same (x ∷ xs) a = rw a.0 (ap (λ l. x ∷ l) (kept_same xs a.1))
 
-  pub kept_none : (xs : List X) → All (λ x. t x ≡ false) xs → filter t xs ≡ []
+  pub kept_none : (xs : List X) → AllByRecursion (λ x. t x ≡ false) xs → filter t xs ≡ []
   kept_none [] a = refl
   kept_none (x ∷ xs) a = rw a.0 (kept_none xs a.1)
 
-  pub any_none : (xs : List X) → All (λ x. t x ≡ false) xs → any t xs ≡ false
+  pub any_none : (xs : List X) → AllByRecursion (λ x. t x ≡ false) xs → any t xs ≡ false
   any_none [] a = refl
   any_none (x ∷ xs) a = rw a.0 (any_none xs a.1)
 
-  pub none_any : (xs : List X) → any t xs ≡ false → All (λ x. t x ≡ false) xs
+  pub none_any : (xs : List X) → any t xs ≡ false → AllByRecursion (λ x. t x ≡ false) xs
   none_any [] e = tt
   none_any (x ∷ xs) e = let p = or_parts (t x) (any t xs) e in (p.0, none_any xs p.1)
 
@@ -62,11 +62,11 @@ pub has_append : {X : Type 0} (xs ys : List X) (x : X) → Has (xs ++ ys) x → 
 has_append [] ys x h = inr h
 has_append (y ∷ xs) ys x h = ⊎_elim (λ s. inl (subst (λ z. Has (z ∷ xs) x) (sym s) (has_here x xs))) (λ r. ⊎_elim (λ a. inl (has_there y x xs a)) (λ b. inr b) (has_append xs ys x r)) (has_cases y x (xs ++ ys) h)
 
-pub all_both : {X : Type 0} (P Q : X → Type 0) (xs : List X) → All P xs → All Q xs → All (λ x. P x × Q x) xs
+pub all_both : {X : Type 0} (P Q : X → Type 0) (xs : List X) → AllByRecursion P xs → AllByRecursion Q xs → AllByRecursion (λ x. P x × Q x) xs
 all_both P Q [] a b = tt
 all_both P Q (x ∷ xs) a b = ((a.0, b.0), all_both P Q xs a.1 b.1)
 
-pub all_from_has : {X : Type 0} (P : X → Type 0) (xs : List X) → ((x : X) → Has xs x → P x) → All P xs
+pub all_from_has : {X : Type 0} (P : X → Type 0) (xs : List X) → ((x : X) → Has xs x → P x) → AllByRecursion P xs
 all_from_has P [] f = tt
 all_from_has P (x ∷ xs) f = (f x (has_here x xs), all_from_has P xs (λ y h. f y (has_there x y xs h)))
 
@@ -77,6 +77,6 @@ kept_swap s t (x ∷ xs) =
     (λ b. by_test (s x) (λ a. rw (b, a, b) (ap (λ l. x ∷ l) (kept_swap s t xs))) (λ a. rw (b, a) (kept_swap s t xs)))
     (λ b. by_test (s x) (λ a. rw (b, a, b) (kept_swap s t xs)) (λ a. rw (b, a) (kept_swap s t xs)))
 
-pub kept_like : {X : Type 0} (s t : X → Bool) (xs : List X) → All (λ x. s x ≡ t x) xs → filter s xs ≡ filter t xs
+pub kept_like : {X : Type 0} (s t : X → Bool) (xs : List X) → AllByRecursion (λ x. s x ≡ t x) xs → filter s xs ≡ filter t xs
 kept_like s t [] a = refl
 kept_like s t (x ∷ xs) a = rw a.0 (ap (cond (t x) (x ∷ filter s xs)) (kept_like s t xs a.1) ∙ ap (λ l. cond (t x) (x ∷ l) (filter t xs)) (kept_like s t xs a.1))

@@ -1,7 +1,7 @@
 -- Sums over the currencies of a sheet, with the cash by place and by code.
 use Rattle.std.proofs.Common.{◌≡◌, ℕ, zero, suc, ◌+◌, ◌<◌, ◌≤◌, false, cond, eqb, List, [], ◌∷◌, length, get_or, take, ℤ, pos, ◌+ℤ◌, sym, refl, ap, ◌∙◌, arith}
 use borrow.Author.Differences.{ints}
-use Rattle.std.specs.List.{AllByRecursion as All}
+use Rattle.std.specs.List.{AllByRecursion}
 use Rattle.std.proofs.lemmas.Bool.{cond-true, cond-false, eq-eqb, ne_eqb, eqb-false}
 use Rattle.margin.specs.declared.Currency.{Currency}
 use Rattle.margin.specs.Numbers.{total}
@@ -26,8 +26,8 @@ module _ (f : Currency → ℤ → ℤ) where
       ap (λ (n : ℕ). by_place f (take n (c ∷ cs)) (z ∷ zs)) e ∙ omega (arith, ints, by_place_more cs zs i d (omega arith) (omega arith))
 
 -- a currency found at another code is not found at this one
-apart_from : (f : Currency → ℤ → ℤ) (k : ℕ) (z : ℤ) (g : ℕ → ℤ) (cs : List Currency) → All (λ c. eqb k c.code ≡ false) cs →
-    All (λ c. f c (cond (eqb c.code k) z (g c.code)) ≡ f c (g c.code)) cs
+apart_from : (f : Currency → ℤ → ℤ) (k : ℕ) (z : ℤ) (g : ℕ → ℤ) (cs : List Currency) → AllByRecursion (λ c. eqb k c.code ≡ false) cs →
+    AllByRecursion (λ c. f c (cond (eqb c.code k) z (g c.code)) ≡ f c (g c.code)) cs
 apart_from f k z g [] a = tt
 apart_from f k z g (c ∷ cs) a = (ap (f c) (cond-false _ _ _ (ne_eqb c.code k (λ e. eqb-false k c.code a.0 (sym e)))), apart_from f k z g cs a.1)
 

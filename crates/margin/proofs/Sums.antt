@@ -2,22 +2,22 @@
 use Rattle.std.proofs.Common.{◌≡◌, ℕ, ◌+◌, ◌≤◌, Bool, true, false, cond, List, [], ◌∷◌, ℤ, pos, ◌+ℤ◌, ◌-ℤ◌, ◌*ℤ◌, ◌≤ℤ◌, filter, sym, refl, ap, ◌∙◌, ap₂, arith}
 use lib.IntN.{+ℤ_idl}
 use lib.Signed.{≤ℤ_refl, lt_z}
-use Rattle.std.specs.List.{AllByRecursion as All}
+use Rattle.std.specs.List.{AllByRecursion}
 use Rattle.std.proofs.lemmas.Int.{ints, clamps}
 use Rattle.margin.specs.Numbers.{total, count, least}
 use Rattle.margin.proofs.Integers.{mul_sum}
 use Rattle.margin.proofs.Lists.{by_test}
 
-pub both_all : {X : Type 0} (P Q R : X → Type 0) → ((x : X) → P x → Q x → R x) → (xs : List X) → All P xs → All Q xs → All R xs
+pub both_all : {X : Type 0} (P Q R : X → Type 0) → ((x : X) → P x → Q x → R x) → (xs : List X) → AllByRecursion P xs → AllByRecursion Q xs → AllByRecursion R xs
 both_all P Q R h [] p q = tt
 both_all P Q R h (x ∷ xs) p q = (h x p.0 q.0, both_all P Q R h xs p.1 q.1)
 
-pub all_each : {X : Type 0} (P : X → Type 0) → ((x : X) → P x) → (xs : List X) → All P xs
+pub all_each : {X : Type 0} (P : X → Type 0) → ((x : X) → P x) → (xs : List X) → AllByRecursion P xs
 all_each P h [] = tt
 all_each P h (x ∷ xs) = (h x, all_each P h xs)
 
 module _ {X : Type 0} where
-  pub sum_same_all : (g h : X → ℤ) (xs : List X) → All (λ x. g x ≡ h x) xs → total g xs ≡ total h xs
+  pub sum_same_all : (g h : X → ℤ) (xs : List X) → AllByRecursion (λ x. g x ≡ h x) xs → total g xs ≡ total h xs
   sum_same_all g h [] e = refl
   sum_same_all g h (x ∷ xs) e = ap₂ ◌+ℤ◌ e.0 (sum_same_all g h xs e.1)
 
@@ -25,7 +25,7 @@ module _ {X : Type 0} where
   sum_same g h e [] = refl
   sum_same g h e (x ∷ xs) = ap₂ ◌+ℤ◌ (e x) (sum_same g h e xs)
 
-  pub sum_le_all : (g h : X → ℤ) (xs : List X) → All (λ x. g x ≤ℤ h x) xs → total g xs ≤ℤ total h xs
+  pub sum_le_all : (g h : X → ℤ) (xs : List X) → AllByRecursion (λ x. g x ≤ℤ h x) xs → total g xs ≤ℤ total h xs
   sum_le_all g h [] e = ≤ℤ_refl (pos 0)
   sum_le_all g h (x ∷ xs) e = omega (arith, ints, e.0, sum_le_all g h xs e.1)
 
@@ -45,7 +45,7 @@ module _ {X : Type 0} where
       go true e = ap (λ z. g x +ℤ z) e
       go false e = e ∙ sym (+ℤ_idl _)
 
-  pub count_same_all : (g h : X → ℕ) (xs : List X) → All (λ x. g x ≡ h x) xs → count g xs ≡ count h xs
+  pub count_same_all : (g h : X → ℕ) (xs : List X) → AllByRecursion (λ x. g x ≡ h x) xs → count g xs ≡ count h xs
   count_same_all g h [] e = refl
   count_same_all g h (x ∷ xs) e = ap₂ ◌+◌ e.0 (count_same_all g h xs e.1)
 

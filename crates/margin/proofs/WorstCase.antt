@@ -1,7 +1,7 @@
 -- The worst case by formula is the least first ratio over all fillings.
 use Rattle.std.proofs.Common.{◌≡◌, ℕ, ◌<◌, ◌≤◌, Bool, true, false, cond, eqb, List, [], ◌∷◌, length, ℤ, pos, ◌+ℤ◌, ◌≤ℤ◌, sym, ap, ◌∙◌, arith}
 use lib.IntN.{*ℤ_comm}
-use Rattle.std.specs.List.{AllByRecursion as All}
+use Rattle.std.specs.List.{AllByRecursion}
 use Rattle.std.proofs.ByRecursion.{all_kept_by, All-weaker}
 use Rattle.std.proofs.lemmas.Int.{ints}
 use Rattle.std.proofs.lemmas.Bool.{cond-true, cond-false, ltb-true}
@@ -50,7 +50,7 @@ module _ (s : Sheet) where
       regroup c = omega (arith, ints, sum_minus (λ i. worth (pieces_of s i) i.price ((filled s f h).planned i.code)) (λ i. paid i h.orders f) (held s h c))
 
   abbrev pub Rated : List Instrument → Type 0
-  Rated is = All (λ i. known s i.code ≡ true) is
+  Rated is = AllByRecursion (λ i. known s i.code ≡ true) is
 
   pub pieces_there : (i : Instrument) → known s i.code ≡ true → 0 < length (pieces_of s i)
   pieces_there i k = go (off_list i.kind) (ltb-true 0 (length (s.pieces i.code)) k)
@@ -75,7 +75,7 @@ module _ (s : Sheet) where
   on_one a b o d h = grind (arith, nat_tests)
 
   abbrev Joint : Holding → List Instrument → Type 0
-  Joint h is = (f : Filling) × ((o : Order) → f o ≤ o.left) × All (λ i. after f h i ≡ low s h i) is
+  Joint h is = (f : Filling) × ((o : Order) → f o ≤ o.left) × AllByRecursion (λ i. after f h i ≡ low s h i) is
 
   joint : (h : Holding) (is : List Instrument) → Apart (λ i. i.code) is → Rated is → Joint h is
   joint h [] a r = ((λ o. 0), (λ o. omega arith), tt)

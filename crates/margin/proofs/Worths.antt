@@ -1,7 +1,7 @@
 -- The worth of a quantity, by pieces that keep the rules.
 use Rattle.std.proofs.Common.{◌≡◌, ℕ, suc, Bool, true, false, cond, ◌&&◌, ◌||◌, eqb, leb, ◌⊎◌, List, [], ◌∷◌, ℤ, pos, negsuc, ◌+ℤ◌, ◌*ℤ◌, ◌≤ℤ◌, sym, refl, ap, ◌∙◌, inl, inr, mul-le-mul_right, arith}
 use lib.Signed.{≤ℤ_refl}
-use Rattle.std.specs.List.{AllByRecursion as All}
+use Rattle.std.specs.List.{AllByRecursion}
 use Rattle.std.proofs.ByRecursion.{All-weaker}
 use Rattle.std.proofs.lemmas.Int.{ints, clamps}
 use Rattle.std.proofs.lemmas.Bool.{and_parts, or_cases, eqb-true, eq-eqb, leb-true, true≢false}
@@ -113,5 +113,5 @@ module _ (s : Sheet) where
       go false t (inl u) = absurd (true≢false (sym (eq-eqb c rouble (sym (eqb-true rouble c u))) ∙ t))
       go false t (inr u) = le_eq (worth_at_most (s.pieces c) (r c u) 1 e) (omega (arith, ints))
 
-  pub shocked_at_most_all : Closed s → All (λ c. (e : ℤ) → shocked s c.code e ≤ℤ e) s.currencies
+  pub shocked_at_most_all : Closed s → AllByRecursion (λ c. (e : ℤ) → shocked s c.code e ≤ℤ e) s.currencies
   shocked_at_most_all k = All-weaker (λ c. (eqb rouble c.code || known s c.code) ≡ true) _ (λ c t. shocked_at_most k.source_keeps_the_rules c.code t) s.currencies k.currencies_rated

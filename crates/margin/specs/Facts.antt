@@ -1,6 +1,6 @@
 -- What is true of one portfolio on a closed sheet, each fact by its name.
 use Rattle.std.specs.Prelude.{◌≡◌, ℕ, ◌*◌, Bool, false, cond, ◌⊎◌, List, map, ℤ, pos, ◌+ℤ◌, ◌*ℤ◌, neg_ℤ, ◌≤ℤ◌, Some, filter, ◌==◌, nat_eq, nat_lt}
-use Rattle.std.specs.List.{AllByRecursion as All}
+use Rattle.std.specs.List.{AllByRecursion}
 use Rattle.margin.specs.declared.Order.{Order}
 use Rattle.margin.specs.declared.Piece.{Piece}
 use Rattle.margin.specs.Numbers.{the_first}
@@ -29,7 +29,7 @@ abbrev pub WorthAtMostPriceTimesQuantity : Type 0
 WorthAtMostPriceTimesQuantity = (ps : List Piece) → KeepsTheRules ps → (price : ℕ) (q : ℤ) → worth ps price q ≤ℤ (pos price *ℤ q)
 
 abbrev pub ShockedAtMostItself : Type 0
-ShockedAtMostItself = (s : Sheet) → Closed s → All (λ c. (e : ℤ) → shocked s c.code e ≤ℤ e) s.currencies
+ShockedAtMostItself = (s : Sheet) → Closed s → AllByRecursion (λ c. (e : ℤ) → shocked s c.code e ≤ℤ e) s.currencies
 
 abbrev pub FirstRatioAtMostValue : Type 0
 FirstRatioAtMostValue = (s : Sheet) → Closed s → (h : Holding) → first_ratio s h ≤ℤ value_of s h

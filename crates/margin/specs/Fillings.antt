@@ -1,7 +1,7 @@
 -- What standing orders may yet become: every filling of them, and the worst case, the least first ratio over all fillings.
 use Rattle.std.specs.Prelude.{◌≡◌, ℕ, ◌*◌, ◌≤◌, cond, List, [], ◌∷◌, ℤ, pos, ◌+ℤ◌, ◌-ℤ◌, ◌*ℤ◌, ◌≤ℤ◌}
 use Rattle.std.specs.Int.{int_min}
-use Rattle.std.specs.List.{AllByRecursion as All}
+use Rattle.std.specs.List.{AllByRecursion}
 use Rattle.margin.specs.declared.Instrument.{Instrument}
 use Rattle.margin.specs.declared.Order.{Order}
 use Rattle.margin.specs.declared.Piece.{Piece}
@@ -15,7 +15,7 @@ abbrev pub Filling : Type 0
 Filling = Order → ℕ
 
 abbrev pub Allowed : Filling → Holding → Type 0
-Allowed f h = All (λ o. f o ≤ o.left) h.orders
+Allowed f h = AllByRecursion (λ o. f o ≤ o.left) h.orders
 
 -- the most that an order can lose on a piece, in ten-thousandths: it is filled wholly or not at all
 abbrev pub drag : Instrument → Piece → Order → ℤ

@@ -1,6 +1,6 @@
 -- The currencies of a sheet, whose codes rise.
 use Rattle.std.proofs.Common.{◌≡◌, ℕ, suc, ◌<◌, true, false, cond, eqb, List, [], ◌∷◌, length, get_or, is_some, Some, Option, sym, refl, ap, ◌∙◌, arith}
-use Rattle.std.specs.List.{AllByRecursion as All}
+use Rattle.std.specs.List.{AllByRecursion}
 use Rattle.std.proofs.lemmas.Bool.{ne_eqb}
 use Rattle.keyed.specs.Rows.{Rising, lookup, Stands, Gap}
 use Rattle.keyed.proofs.Lookups.{rest, first, lookup_at, lookup_gap}
@@ -9,7 +9,7 @@ use Rattle.margin.specs.Keys.{currency_code}
 use Rattle.margin.specs.Numbers.{the_first}
 use Rattle.margin.specs.Sheets.{Apart}
 
-all_later : (c : Currency) (cs : List Currency) → ((i : ℕ) (d : Currency) → i < length cs → c.code < (get_or cs i d).code) → All (λ d. eqb c.code d.code ≡ false) cs
+all_later : (c : Currency) (cs : List Currency) → ((i : ℕ) (d : Currency) → i < length cs → c.code < (get_or cs i d).code) → AllByRecursion (λ d. eqb c.code d.code ≡ false) cs
 all_later c [] h = tt
 all_later c (d ∷ ds) h = (ne_eqb c.code d.code (λ e. omega (arith, h 0 d (omega arith))), all_later c ds (λ i x l. h (suc i) x (omega arith)))
 

@@ -1,6 +1,6 @@
 -- The lines are those that exist, each once.
 use Rattle.std.proofs.Common.{◌≡◌, ℕ, Bool, true, false, not, ◌&&◌, ◌||◌, eqb, ltb, ◌↔◌, List, [], ◌∷◌, ◌++◌, ℤ, pos, nat_abs, Some, None, filter, Option, sym, refl, ap, ◌∙◌, subst, arith}
-use Rattle.std.specs.List.{ContainsAt as Has, AllByRecursion as All}
+use Rattle.std.specs.List.{ContainsAt as Has, AllByRecursion}
 use Rattle.std.proofs.ByRecursion.{All-weaker, all-has, All-append, has_append_left, has_append_right, all_kept_by, kept_by_passes}
 use Rattle.std.proofs.lemmas.Bool.{cond_both, both_ways, eqb-true, eq-eqb, or_parts, or_right, and_parts, and_from, not-true}
 use Rattle.margin.specs.declared.Order.{Order}
@@ -149,7 +149,7 @@ only_once t (b ∷ bs) a = cond_both (t b) (b ∷ filter t bs) (filter t bs) Onc
 same_turned : (b d : Spot) → same_spot b d ≡ false → same_spot d b ≡ false
 same_turned b d e = by_test (same_spot d b) (λ y. absurd (both_ways (same_spot b d) e (ap (λ x. same_spot b x) (spot_is d b y) ∙ same_itself b))) (λ n. n)
 
-append_once : (xs ys : List Spot) → Once xs → Once ys → All (λ y. any (same_spot y) xs ≡ false) ys → Once (xs ++ ys)
+append_once : (xs ys : List Spot) → Once xs → Once ys → AllByRecursion (λ y. any (same_spot y) xs ≡ false) ys → Once (xs ++ ys)
 append_once [] ys a b f = b
 append_once (x ∷ xs) ys a b f = (
   All-append (λ d. same_spot x d ≡ false) xs ys a.0 (All-weaker _ (λ d. same_spot x d ≡ false) (λ y e. same_turned y x (or_parts (same_spot y x) (any (same_spot y) xs) e).0) ys f),

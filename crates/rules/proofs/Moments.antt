@@ -1,6 +1,6 @@
 -- Moments of a history: what was ruled and closed stays so, and the checks that an accepted call has passed.
 use Rattle.std.proofs.Common.{◌≡◌, true, false, not, eqb, List, [], ◌∷◌, sym, refl, ap, ◌∙◌, subst}
-use Rattle.std.specs.List.{AllByRecursion as All}
+use Rattle.std.specs.List.{AllByRecursion}
 use Rattle.std.proofs.ByRecursion.{all_kept_by}
 use Rattle.std.proofs.lemmas.Bool.{both_ways, cond-true, cond-false}
 use Rattle.margin.specs.Sheets.{Closed}
@@ -25,7 +25,7 @@ pub at_moment : (q : History) {h : History} → Moment q h → Ruled h → Ruled
 at_moment q last R = R
 at_moment q (sooner m) R = at_moment q m R.0
 
-pub passes : (cs : List Check) (r a : Answer) → a ≡ first_of cs r → done a ≡ true → All (λ k. k.fails ≡ false) cs
+pub passes : (cs : List Check) (r a : Answer) → a ≡ first_of cs r → done a ≡ true → AllByRecursion (λ k. k.fails ≡ false) cs
 passes [] r a e d = tt
 passes (c ∷ cs) r a e d =
     by_test c.fails

@@ -1,6 +1,6 @@
 -- Lists of standing orders: one less filled, one cancelled.
 use Rattle.std.proofs.Common.{◌≡◌, ℕ, Bool, true, false, not, ◌&&◌, eqb, ltb, List, [], ◌∷◌, is_some, Some, None, filter, Option, sym, refl, ap, ◌∙◌, subst, arith}
-use Rattle.std.specs.List.{ContainsAt as Has, AllByRecursion as All}
+use Rattle.std.specs.List.{ContainsAt as Has, AllByRecursion}
 use Rattle.std.proofs.ByRecursion.{All-weaker, all_kept_by}
 use Rattle.std.proofs.lemmas.Bool.{both_ways, or_parts, cond_both, eqb-true}
 use Rattle.margin.specs.declared.Order.{Order}
@@ -11,7 +11,7 @@ use Rattle.rules.specs.Histories.{owner}
 use Rattle.margin.proofs.Lists.{by_test, has_here, has_there, kept_same}
 
 -- ---- the first
-pub first_none : {X : Type 0} (t : X → Bool) (xs : List X) → is_some (the_first t xs) ≡ false → All (λ x. t x ≡ false) xs
+pub first_none : {X : Type 0} (t : X → Bool) (xs : List X) → is_some (the_first t xs) ≡ false → AllByRecursion (λ x. t x ≡ false) xs
 first_none t [] e = tt
 first_none t (x ∷ xs) e = by_test (t x) (λ y. absurd (both_ways true (rw y at e) refl)) (λ n. (n, first_none t xs (rw n at e)))
 
@@ -36,11 +36,11 @@ abbrev pub mine : ℕ → Order → Bool
 mine j o = eqb j o.portfolio
 
 module _ (n q : ℕ) where
-  pub less_all : (P : Order → Type 0) (os : List Order) → ((o : Order) → P o → ltb q o.left ≡ true → P (less q o)) → All P os → All P (less_filled n q os)
+  pub less_all : (P : Order → Type 0) (os : List Order) → ((o : Order) → P o → ltb q o.left ≡ true → P (less q o)) → AllByRecursion P os → AllByRecursion P (less_filled n q os)
   less_all P [] f a = tt
   less_all P (o ∷ os) f a =
       by_test (eqb n o.number)
-      (λ y. rw y (cond_both (ltb q o.left) (less q o ∷ os) os (All P) (λ l. (f o a.0 l, a.1)) (λ _. a.1)))
+      (λ y. rw y (cond_both (ltb q o.left) (less q o ∷ os) os (AllByRecursion P) (λ l. (f o a.0 l, a.1)) (λ _. a.1)))
       (λ x. rw x (a.0, less_all P os f a.1))
 
   pub less_apart : (os : List Order) → Apart num os → Apart num (less_filled n q os)
@@ -67,7 +67,7 @@ module _ (n : ℕ) where
   others o = not (eqb n o.number)
 
   -- where the first of a list with distinct numbers goes, no other does
-  pub rest_kept : (o : Order) (os : List Order) → eqb n o.number ≡ true → All (λ y. eqb o.number y.number ≡ false) os → filter others os ≡ os
+  pub rest_kept : (o : Order) (os : List Order) → eqb n o.number ≡ true → AllByRecursion (λ y. eqb o.number y.number ≡ false) os → filter others os ≡ os
   rest_kept o os y a = kept_same others os (All-weaker (λ z. eqb o.number z.number ≡ false) (λ z. others z ≡ true) (λ z p. ap not (ap (λ m. eqb m z.number) (eqb-true n o.number y) ∙ p)) os a)
 
   pub cancel_others : (j : ℕ) (os : List Order) → Apart num os → eqb j (owner (the_first (named n) os)) ≡ false → filter (mine j) (filter others os) ≡ filter (mine j) os

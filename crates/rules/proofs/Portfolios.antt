@@ -1,6 +1,6 @@
 -- Portfolios: each is opened once, and one that is not open has nothing.
 use Rattle.std.proofs.Common.{◌≡◌, ℕ, true, false, eqb, ℤ, pos, ◌+ℤ◌, is_some, None, refl, ap, ◌∙◌}
-use Rattle.std.specs.List.{AllByRecursion as All}
+use Rattle.std.specs.List.{AllByRecursion}
 use Rattle.std.proofs.ByRecursion.{all-has, All-weaker}
 use Rattle.std.proofs.lemmas.Bool.{and_right, cond_both, cond-false, and_left, both_ways, eqb-true, or_parts, not-false}
 use Rattle.margin.specs.Sheets.{Apart}
@@ -17,7 +17,7 @@ use Rattle.rules.proofs.Untouched.{owed_left, pays_nought, delivers_nought}
 apart_from_open : (h : History) (j p : ℕ) → is_open h j ≡ false → is_open h p ≡ true → eqb j p ≡ false
 apart_from_open h j p c o = by_test (eqb j p) (λ e. absurd (both_ways (is_open h j) c (ap (is_open h) (eqb-true j p e) ∙ o))) (λ f. f)
 
-owner_open : (h : History) (n : ℕ) → All (Good h) (orders h) → is_some (standing h n) ≡ true → is_open h (owner (standing h n)) ≡ true
+owner_open : (h : History) (n : ℕ) → AllByRecursion (Good h) (orders h) → is_some (standing h n) ≡ true → is_open h (owner (standing h n)) ≡ true
 owner_open h n a s =
     let p = some_is (standing h n) s in
     let g = all-has (Good h) (orders h) p.0 a (first_some (named n) (orders h) p.0 p.1).0 in
@@ -35,7 +35,7 @@ Idle h c j = (k : ℕ) → (pays h c j k ≡ pos 0) × (delivers h c j k ≡ pos
 unconcerned : (h : History) (c : Call) (j : ℕ) → concerns h c j ≡ false → Idle h c j
 unconcerned h c j e k = (pays_nought h c j k e, delivers_nought h c j k e)
 
-pub idle : (h : History) (c : Call) (j : ℕ) → PassesEarlier h c → All (Good h) (orders h) → is_open h j ≡ false → Idle h c j
+pub idle : (h : History) (c : Call) (j : ℕ) → PassesEarlier h c → AllByRecursion (Good h) (orders h) → is_open h j ≡ false → Idle h c j
 idle h (open_portfolio p) j P a o k = (refl, refl)
 idle h (pay_in p c x) j P a o k = unconcerned h (pay_in p c x) j (apart_from_open h j p o (not-false _ P.1.0)) k
 idle h (pay_out p c x) j P a o k = unconcerned h (pay_out p c x) j (apart_from_open h j p o (not-false _ P.1.0)) k
@@ -66,7 +66,7 @@ was_closed h (record_paper w t) j o = o
 was_closed h (put_back w) j o = o
 was_closed h (put_in_force t) j o = o
 
-empty_step : (h : History) (c : Call) (j : ℕ) → PassesEarlier h c → All (Good h) (orders h) → is_open h j ≡ false → Nothing h j → Nothing (then h c) j
+empty_step : (h : History) (c : Call) (j : ℕ) → PassesEarlier h c → AllByRecursion (Good h) (orders h) → is_open h j ≡ false → Nothing h j → Nothing (then h c) j
 empty_step h c j P a o p = let i = idle h c j P a o in (λ k. still _ _ (p.0 k) (i k).0, λ k. still _ _ (p.1 k) (i k).1)
 
 pub empty : (h : History) (j : ℕ) → Ruled h → is_open h j ≡ false → Nothing h j
@@ -76,7 +76,7 @@ empty (asked h c accepted) j R o = let o' = was_closed h c j o in empty_step h c
 empty (asked h c (told f)) j R o = let o' = was_closed h c j o in empty_step h c j (passed h c (told f) R refl) (orders_good h R.0) o' (empty h j R.0 o')
 empty (asked h c (given w)) j R o = let o' = was_closed h c j o in empty_step h c j (passed h c (given w) R refl) (orders_good h R.0) o' (empty h j R.0 o')
 
-pub no_orders : (h : History) (j : ℕ) → Ruled h → is_open h j ≡ false → All (λ o. mine j o ≡ false) (orders h)
+pub no_orders : (h : History) (j : ℕ) → Ruled h → is_open h j ≡ false → AllByRecursion (λ o. mine j o ≡ false) (orders h)
 no_orders h j R o = All-weaker (Good h) (λ r. mine j r ≡ false) (λ r g. apart_from_open h j r.portfolio o g.0) (orders h) (orders_good h R)
 
 -- ---- nor a notice

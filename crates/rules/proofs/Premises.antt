@@ -1,6 +1,6 @@
 -- The book of new sheets: its sheets are closed, and its answers the rules'.
 use Rattle.std.proofs.Common.{◌≡◌, ℕ, ◌+◌, ◌-◌, ◌*◌, ◌≤◌, true, false, eqb, ltb, List, [], ◌∷◌, map, length, is_some, refl, arith}
-use Rattle.std.specs.List.{AllByRecursion as All}
+use Rattle.std.specs.List.{AllByRecursion}
 use Rattle.std.proofs.lemmas.Bool.{or_left, or_right, le-leb, both_ways, cond_both}
 use Rattle.margin.specs.declared.Instrument.{Instrument}
 use Rattle.margin.specs.declared.Kind.{Kind}
@@ -24,7 +24,7 @@ ruled_after h (r ∷ rs) R e =
     ruled_after (asked h r.0 r.1) rs (R, here) rest
 
 -- ---- sheets
-closed_after : (h : History) (rs : List (Call × Answer)) → ClosedSheets h → All (λ r. offers_closed r.0) rs → ClosedSheets (after h rs)
+closed_after : (h : History) (rs : List (Call × Answer)) → ClosedSheets h → AllByRecursion (λ r. offers_closed r.0) rs → ClosedSheets (after h rs)
 closed_after h [] C a = C
 closed_after h (r ∷ rs) C a = closed_after (asked h r.0 r.1) rs (C, a.0) a.1
 
@@ -44,19 +44,19 @@ rates_keep c =
     cond_both (eqb c 1001) _ _ (λ ps. ltb 0 (length ps) ≡ true → KeepsTheRules ps) (λ _ _. keeps 2000 2500 (omega arith) (omega arith)) (λ _.
     cond_both (eqb c 1002) _ _ (λ ps. ltb 0 (length ps) ≡ true → KeepsTheRules ps) (λ _ _. keeps 3000 4000 (omega arith) (omega arith)) (λ _ k. absurd (both_ways false refl k))))
 
-no_allowance : (price c : ℕ) → All (λ p. price * p.allowance ≤ 2000000000000000) (posted_rates c)
+no_allowance : (price c : ℕ) → AllByRecursion (λ p. price * p.allowance ≤ 2000000000000000) (posted_rates c)
 no_allowance price c =
-    let small : List Piece → Type 0 = All (λ p. price * p.allowance ≤ 2000000000000000) in
+    let small : List Piece → Type 0 = AllByRecursion (λ p. price * p.allowance ≤ 2000000000000000) in
     cond_both (eqb c 840) _ _ small (λ _. (omega arith, (omega arith, tt))) (λ _.
     cond_both (eqb c 1001) _ _ small (λ _. (omega arith, (omega arith, tt))) (λ _.
     cond_both (eqb c 1002) _ _ small (λ _. (omega arith, (omega arith, tt))) (λ _. tt)))
 
-all_bounded : (is : List Instrument) → All (λ i. All (λ p. i.price * p.allowance ≤ 2000000000000000) (posted_rates i.code)) is
+all_bounded : (is : List Instrument) → AllByRecursion (λ i. AllByRecursion (λ p. i.price * p.allowance ≤ 2000000000000000) (posted_rates i.code)) is
 all_bounded [] = tt
 all_bounded (i ∷ is) = (no_allowance i.price i.code, all_bounded is)
 
 -- with roubles and dollars, and at most one instrument beside the bond
-module _ (is : List Instrument) (apart : Apart (λ i. i.code) is) (there : All (λ i. is_some (currency_at (posted_sheet (roubles ∷ dollars ∷ []) is) i.currency) ≡ true) is) (rated : All (λ i. ltb 0 (length (posted_rates i.code)) ≡ true) is) where
+module _ (is : List Instrument) (apart : Apart (λ i. i.code) is) (there : AllByRecursion (λ i. is_some (currency_at (posted_sheet (roubles ∷ dollars ∷ []) is) i.currency) ≡ true) is) (rated : AllByRecursion (λ i. ltb 0 (length (posted_rates i.code)) ≡ true) is) where
   two_currencies : Closed (posted_sheet (roubles ∷ dollars ∷ []) is)
   two_currencies = record {
     currencies_apart = ((refl, tt), (tt, tt));

@@ -1,6 +1,6 @@
 -- A refusal for margin, exactly: from the rules, and from what the worst case is.
 use Rattle.std.proofs.Common.{◌≡◌, ℕ, Bool, true, false, not, ◌&&◌, eqb, ◌↔◌, List, [], ◌∷◌, ◌++◌, ℤ, pos, ◌≤ℤ◌, ◌<ℤ◌, filter, sym, refl, ap, ◌∙◌, subst, ⊎_elim, arith}
-use Rattle.std.specs.List.{AllByRecursion as All}
+use Rattle.std.specs.List.{AllByRecursion}
 use Rattle.std.proofs.ByRecursion.{kept_by_passes}
 use Rattle.std.proofs.lemmas.Int.{ints}
 use Rattle.std.proofs.lemmas.Bool.{eqb-true, cases_Bool, and_parts, and_from, not-true, both_ways, eq-eqb, cond-true, cond-false}
@@ -17,8 +17,8 @@ use Rattle.margin.proofs.WorstCase.{worst_is_least}
 use Rattle.rules.proofs.Moments.{at_moment, closed_then, closed_now}
 
 -- the last check of all has the number 24, and no other has
-last_of : (es : List Check) (w : Bool) (a : Answer) → All (λ k. not (eqb 24 k.number) ≡ true) es → a ≡ first_of (es ++ record { fails = w; number = 24 } ∷ []) accepted →
-    (a ≡ refused 24) ↔ (All (λ k. k.fails ≡ false) es × (w ≡ true))
+last_of : (es : List Check) (w : Bool) (a : Answer) → AllByRecursion (λ k. not (eqb 24 k.number) ≡ true) es → a ≡ first_of (es ++ record { fails = w; number = 24 } ∷ []) accepted →
+    (a ≡ refused 24) ↔ (AllByRecursion (λ k. k.fails ≡ false) es × (w ≡ true))
 last_of [] true a n e = (λ _. (tt, refl), λ _. e)
 last_of [] false a n e = (λ p. let z : ◌≡◌ {A = ℕ} 0 1 = cc in absurd (omega arith), λ p. let z : ◌≡◌ {A = ℕ} 0 1 = cc p.1 in absurd (omega arith))
 last_of (k ∷ es) w a n e =
@@ -31,7 +31,7 @@ last_of (k ∷ es) w a n e =
     (cases_Bool k.fails)
 
 last_check : (cs : List Check) (w : Bool) (a : Answer) → cs ≡ filter (λ k. not (eqb 24 k.number)) cs ++ record { fails = w; number = 24 } ∷ [] → a ≡ first_of cs accepted →
-    (a ≡ refused 24) ↔ (All (λ k. k.fails ≡ false) (filter (λ k. not (eqb 24 k.number)) cs) × (w ≡ true))
+    (a ≡ refused 24) ↔ (AllByRecursion (λ k. k.fails ≡ false) (filter (λ k. not (eqb 24 k.number)) cs) × (w ≡ true))
 last_check cs w a is e = last_of (filter (λ k. not (eqb 24 k.number)) cs) w a (kept_by_passes _ cs) (e ∙ ap (λ l. first_of l accepted) is)
 
 ≤_less : {x y z : ℤ} → x ≤ℤ y → y <ℤ z → x <ℤ z

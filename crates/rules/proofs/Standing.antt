@@ -1,6 +1,6 @@
 -- Standing orders: their numbers are distinct, and each is of an open portfolio, with something left.
 use Rattle.std.proofs.Common.{◌≡◌, ◌≤◌, true, eqb, refl, arith}
-use Rattle.std.specs.List.{AllByRecursion as All}
+use Rattle.std.specs.List.{AllByRecursion}
 use Rattle.std.proofs.ByRecursion.{All-weaker, all_kept_by}
 use Rattle.std.proofs.lemmas.Bool.{ltb-true, ltb-false, or_parts, or_right, not-false}
 use Rattle.margin.specs.declared.Order.{Order}
@@ -38,7 +38,7 @@ numbers_apart (asked h c (given w)) R = apart_step h c (passed h c (given w) R r
 abbrev pub Good : History → Order → Type 0
 Good h o = (is_open h o.portfolio ≡ true) × (1 ≤ o.left)
 
-pub good_step : (h : History) (c : Call) → PassesEarlier h c → All (Good h) (orders h) → All (Good (then h c)) (orders (then h c))
+pub good_step : (h : History) (c : Call) → PassesEarlier h c → AllByRecursion (Good h) (orders h) → AllByRecursion (Good (then h c)) (orders (then h c))
 good_step h (open_portfolio p) P a = All-weaker (Good h) (Good (then h (open_portfolio p))) (λ o g. (or_right (eqb o.portfolio p) (is_open h o.portfolio) g.0, g.1)) (orders h) a
 good_step h (pay_in p c x) P a = a
 good_step h (pay_out p c x) P a = a
@@ -56,7 +56,7 @@ good_step h (record_paper w t) P a = a
 good_step h (put_back w) P a = a
 good_step h (put_in_force t) P a = a
 
-pub orders_good : (h : History) → Ruled h → All (Good h) (orders h)
+pub orders_good : (h : History) → Ruled h → AllByRecursion (Good h) (orders h)
 orders_good (opened_with s n) R = tt
 orders_good (asked h c (refused n)) R = orders_good h R.0
 orders_good (asked h c accepted) R = good_step h c (passed h c accepted R refl) (orders_good h R.0)

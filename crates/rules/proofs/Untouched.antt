@@ -1,6 +1,6 @@
 -- A call for one portfolio leaves all others as they are.
 use Rattle.std.proofs.Common.{◌≡◌, ℕ, Bool, true, false, not, ◌&&◌, eqb, List, ◌++◌, ℤ, pos, Some, None, filter, Option, sym, refl, ap, ◌∙◌}
-use Rattle.std.specs.List.{AllByRecursion as All}
+use Rattle.std.specs.List.{AllByRecursion}
 use Rattle.std.proofs.lemmas.List.Elements.{filter-append}
 use Rattle.std.proofs.ByRecursion.{All-weaker, all_kept_by, kept_by_passes}
 use Rattle.std.proofs.lemmas.Bool.{and_right, both_ways, eqb-true, and_left}
@@ -30,7 +30,7 @@ units_apart : (o : Option Order) (q j code : ℕ) → eqb j (owner o) ≡ false 
 units_apart None q j code e = refl
 units_apart (Some o) q j code e = rw e
 
-spot_apart : (o : Option Order) (j : ℕ) → eqb j (owner o) ≡ false → All (λ b. eqb j b.portfolio ≡ false) (spot_of o)
+spot_apart : (o : Option Order) (j : ℕ) → eqb j (owner o) ≡ false → AllByRecursion (λ b. eqb j b.portfolio ≡ false) (spot_of o)
 spot_apart None j e = tt
 spot_apart (Some o) j e = (e, tt)
 
@@ -79,7 +79,7 @@ orders_left h (record_paper w t) j a e = refl
 orders_left h (put_back w) j a e = refl
 orders_left h (put_in_force t) j a e = refl
 
-pub touches_others : (h : History) (c : Call) (j : ℕ) → concerns h c j ≡ false → All (λ b. eqb j b.portfolio ≡ false) (touches h c)
+pub touches_others : (h : History) (c : Call) (j : ℕ) → concerns h c j ≡ false → AllByRecursion (λ b. eqb j b.portfolio ≡ false) (touches h c)
 touches_others h (open_portfolio p) j e = tt
 touches_others h (pay_in p c x) j e = tt
 touches_others h (pay_out p c x) j e = tt
@@ -114,7 +114,7 @@ abbrev pub of : ℕ → Spot → Bool
 of j b = eqb j b.portfolio
 
 -- a spot of j is none of those that a call for another touches
-free_of : (j : ℕ) (b : Spot) (bs : List Spot) → of j b ≡ true → All (λ d. of j d ≡ false) bs → any (same_spot b) bs ≡ false
+free_of : (j : ℕ) (b : Spot) (bs : List Spot) → of j b ≡ true → AllByRecursion (λ d. of j d ≡ false) bs → any (same_spot b) bs ≡ false
 free_of j b bs e a = any_none (same_spot b) bs (All-weaker (λ d. of j d ≡ false) (λ d. same_spot b d ≡ false) (λ d f. and_left _ _ (ap (λ x. eqb x d.portfolio) (sym (eqb-true j b.portfolio e)) ∙ f)) bs a)
 
 pub lines_left : (h : History) (c : Call) (j : ℕ) → Apart num (orders h) → Exact h → concerns h c j ≡ false → filter (of j) (lines (then h c)) ≡ filter (of j) (lines h)
@@ -122,12 +122,12 @@ lines_left h c j a E e =
     let T : List Spot = touches h c in
     let free : Spot → Bool = λ d. not (any (same_spot d) T) in
     let after : Spot → Bool = exists (then h c) in
-    let away : All (λ d. of j d ≡ false) T = touches_others h c j e in
+    let away : AllByRecursion (λ d. of j d ≡ false) T = touches_others h c j e in
     let own : List Spot = filter (of j) (lines h) in
-    let mine' : All (λ b. of j b ≡ true) own = kept_by_passes (of j) (lines h) in
-    let there : All (λ b. exists h b ≡ true) own = all_kept_by (of j) (λ b. exists h b ≡ true) (lines h) (all_from_has (λ b. exists h b ≡ true) (lines h) (λ b m. (E b).0 m)) in
-    let frees : All (λ b. free b ≡ true) own = All-weaker (λ b. of j b ≡ true) (λ b. free b ≡ true) (λ b y. ap not (free_of j b T y away)) own mine' in
-    let stays : All (λ b. after b ≡ true) own =
+    let mine' : AllByRecursion (λ b. of j b ≡ true) own = kept_by_passes (of j) (lines h) in
+    let there : AllByRecursion (λ b. exists h b ≡ true) own = all_kept_by (of j) (λ b. exists h b ≡ true) (lines h) (all_from_has (λ b. exists h b ≡ true) (lines h) (λ b m. (E b).0 m)) in
+    let frees : AllByRecursion (λ b. free b ≡ true) own = All-weaker (λ b. of j b ≡ true) (λ b. free b ≡ true) (λ b y. ap not (free_of j b T y away)) own mine' in
+    let stays : AllByRecursion (λ b. after b ≡ true) own =
     All-weaker (λ b. (of j b ≡ true) × (exists h b ≡ true)) (λ b. after b ≡ true) (λ b p. exists_left h c b a (free_of j b T p.0 away) ∙ p.1) own (all_both _ _ own mine' there)
     in
     kept_swap (of j) after (T ++ filter free (lines h))

@@ -1,6 +1,6 @@
 -- Under one sheet no accepted call leaves a worst case both below nought and lower.
 use Rattle.std.proofs.Common.{◌≡◌, ℕ, Bool, true, false, cond, ◌&&◌, eqb, ltb, ℤ, pos, ◌+ℤ◌, nat_abs, ◌≤ℤ◌, Some, filter, sym, refl, ap, ◌∙◌, subst, inl, inr, arith}
-use Rattle.std.specs.List.{AllByRecursion as All}
+use Rattle.std.specs.List.{AllByRecursion}
 use Rattle.std.proofs.lemmas.Int.{ints}
 use Rattle.std.proofs.lemmas.Bool.{eqb-true, or_parts, not-false, both_ways}
 use Rattle.margin.specs.declared.Order.{Order}
@@ -65,7 +65,7 @@ module _ (h : History) (C : Closed (in_force h)) (R : Ruled h) (j : ℕ) where
         orders = less_mine j n q o (orders h) st m;
       } (holding_lined h (exact h R) j) (lined_then (fill n q x)))
 
-  step : (c : Call) (a : Answer) → done a ≡ true → new_sheet c a ≡ false → concerns h c j ≡ true → All (λ k. k.fails ≡ false) (checks h c) → Step c
+  step : (c : Call) (a : Answer) → done a ≡ true → new_sheet c a ≡ false → concerns h c j ≡ true → AllByRecursion (λ k. k.fails ≡ false) (checks h c) → Step c
   step (pay_in p c x) a d N t P = raised (then h (pay_in p c x)) (lined_then (pay_in p c x)) record {
     cash = λ k. adds (cash h j k) (eqb j p && eqb k c) x;
     planned = λ code. stays (planned h j code);
@@ -94,7 +94,7 @@ module _ (h : History) (C : Closed (in_force h)) (R : Ruled h) (j : ℕ) where
   step (put_back w) a d N t P = moved_nothing
   step (put_in_force s) a d N t P = absurd (both_ways (done a) N d)
 
-  step_done : (c : Call) (a : Answer) → done a ≡ true → new_sheet c a ≡ false → All (λ k. k.fails ≡ false) (checks h c) → Step c
+  step_done : (c : Call) (a : Answer) → done a ≡ true → new_sheet c a ≡ false → AllByRecursion (λ k. k.fails ≡ false) (checks h c) → Step c
   step_done c a d N P = by_test (concerns h c j) (λ t. step c a d N t P) (λ f. kept_equal _ _ (sym (worst_left h c j R f)))
 
 one_step : (h : History) (c : Call) (a : Answer) → ClosedSheets (asked h c a) → Ruled (asked h c a) → new_sheet c a ≡ false → (j : ℕ) → Kept (worst_now h j) (worst_now (asked h c a) j)

@@ -1,6 +1,6 @@
 -- The laws of every run: what holds of a history in which each answer was the rules', and each sheet closed.
 use Rattle.std.specs.Prelude.{◌≡◌, ℕ, ◌+◌, ◌≤◌, Bool, true, false, not, ◌⊎◌, ◌↔◌, List, [], ◌∷◌, length, ℤ, pos, ◌≤ℤ◌, ◌<ℤ◌, is_some, Some, None, filter, Option, ◌==◌}
-use Rattle.std.specs.List.{ContainsAt as Has, AllByRecursion as All}
+use Rattle.std.specs.List.{ContainsAt as Has, AllByRecursion}
 use Rattle.margin.specs.declared.Instrument.{Instrument}
 use Rattle.margin.specs.Sheets.{currency_at, Sheet, Closed, Apart, instrument_at}
 use Rattle.margin.specs.Holdings.{Holding, first_ratio}
@@ -62,7 +62,7 @@ CoverKept h = (p q : History) → OneSheet p q → Moment q h → (j code : ℕ)
 
 -- in every currency the gross is within its limit
 abbrev pub GrossKept : History → Type 0
-GrossKept = Always (λ q. (j : ℕ) → All (λ c. gross (in_force q) (holding q j) c.code ≤ gross_limit) (in_force q).currencies)
+GrossKept = Always (λ q. (j : ℕ) → AllByRecursion (λ c. gross (in_force q) (holding q j) c.code ≤ gross_limit) (in_force q).currencies)
 
 -- ---- margin
 -- the worst case is the least first ratio over all fillings
@@ -86,7 +86,7 @@ judged (put_back w) j = false
 judged (put_in_force t) j = false
 
 abbrev pub PassesEarlier : History → Call → Type 0
-PassesEarlier q c = All (λ k. k.fails ≡ false) (filter (λ k. not (24 == k.number)) (checks q c))
+PassesEarlier q c = AllByRecursion (λ k. k.fails ≡ false) (filter (λ k. not (24 == k.number)) (checks q c))
 
 abbrev pub SomeFillingWorsens : History → Call → ℕ → Type 0
 SomeFillingWorsens q c j =
@@ -151,7 +151,7 @@ currency_of (Some i) = Some i.currency
 
 pub record SameCurrencies (p q : History) : Type 0 where
   pub of_the_register : (c : ℕ) → is_some (currency_at (in_force q) c) ≡ is_some (currency_at (in_force p) c)
-  pub of_lines : All (λ b. currency_of (instrument_at (in_force q) b.code) ≡ currency_of (instrument_at (in_force p) b.code)) (lines p)
+  pub of_lines : AllByRecursion (λ b. currency_of (instrument_at (in_force q) b.code) ≡ currency_of (instrument_at (in_force p) b.code)) (lines p)
 
 abbrev pub CurrenciesKept : History → Type 0
 CurrenciesKept = AtEachCall (λ q c a. SameCurrencies q (asked q c a))
@@ -159,22 +159,22 @@ CurrenciesKept = AtEachCall (λ q c a. SameCurrencies q (asked q c a))
 -- ---- orders, lines and portfolios
 pub record SoundOrders (q : History) : Type 0 where
   pub numbers_distinct : Apart (λ o. o.number) (orders q)
-  pub of_open_portfolios : All (λ o. is_open q o.portfolio ≡ true) (orders q)
-  pub something_left : All (λ o. 1 ≤ o.left) (orders q)
-  pub each_has_its_line : All (λ o. Has (lines q) record { portfolio = o.portfolio; code = o.code }) (orders q)
+  pub of_open_portfolios : AllByRecursion (λ o. is_open q o.portfolio ≡ true) (orders q)
+  pub something_left : AllByRecursion (λ o. 1 ≤ o.left) (orders q)
+  pub each_has_its_line : AllByRecursion (λ o. Has (lines q) record { portfolio = o.portfolio; code = o.code }) (orders q)
 
 abbrev pub OrdersSound : History → Type 0
 OrdersSound = Always SoundOrders
 
 abbrev pub Once : List Spot → Type 0
 Once [] = Unit {0}
-Once (b ∷ bs) = All (λ d. same_spot b d ≡ false) bs × Once bs
+Once (b ∷ bs) = AllByRecursion (λ d. same_spot b d ≡ false) bs × Once bs
 
 -- there is a line exactly while its planned position is not 0 or an order stands on it, once, and its code is in the sheet
 pub record SoundLines (q : History) : Type 0 where
   pub exact : (b : Spot) → Has (lines q) b ↔ (line_exists q b.portfolio b.code ≡ true)
   pub once : Once (lines q)
-  pub in_the_sheet : All (λ b. is_some (instrument_at (in_force q) b.code) ≡ true) (lines q)
+  pub in_the_sheet : AllByRecursion (λ b. is_some (instrument_at (in_force q) b.code) ≡ true) (lines q)
 
 abbrev pub LinesSound : History → Type 0
 LinesSound = Always SoundLines
@@ -184,7 +184,7 @@ pub record SoundPortfolios (q : History) : Type 0 where
   pub each_once : Apart (λ p. p) (portfolios q)
   pub unopened_no_cash : (j : ℕ) → is_open q j ≡ false → (c : ℕ) → cash q j c ≡ pos 0
   pub unopened_no_position : (j : ℕ) → is_open q j ≡ false → (code : ℕ) → planned q j code ≡ pos 0
-  pub unopened_no_order : (j : ℕ) → is_open q j ≡ false → All (λ o. (j == o.portfolio) ≡ false) (orders q)
+  pub unopened_no_order : (j : ℕ) → is_open q j ≡ false → AllByRecursion (λ o. (j == o.portfolio) ≡ false) (orders q)
   pub unopened_no_notice : (j : ℕ) → is_open q j ≡ false → notice q j ≡ None
 
 abbrev pub PortfoliosSound : History → Type 0

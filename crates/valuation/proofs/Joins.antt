@@ -2,7 +2,7 @@
 use Rattle.std.proofs.Common.{◌≡◌, ℕ, suc, ◌<◌, Bool, true, false, cond, ◌&&◌, ◌||◌, eqb, List, [], ◌∷◌, map, length, get_or, ℤ, pos, ◌+ℤ◌, Some, filter, sym, refl, ap, ◌∙◌, ap₂, arith}
 use lib.IntN.{+ℤ_idr, +ℤ_idl}
 use borrow.Author.Differences.{ints}
-use Rattle.std.specs.List.{AllByRecursion as All}
+use Rattle.std.specs.List.{AllByRecursion}
 use Rattle.std.proofs.ByRecursion.{All-weaker}
 use Rattle.std.proofs.lemmas.Bool.{eq-eqb, ne_eqb, eqb-true, eqb-false}
 use Rattle.keyed.specs.Rows.{Rising, lookup}
@@ -18,7 +18,7 @@ eqb_sym a b true e = eq-eqb b a (sym (eqb-true a b e))
 eqb_sym a b false e = ne_eqb b a (λ q. eqb-false a b e (sym q))
 
 module _ {X : Type 0} where
-  sum_none : (f : X → ℤ) (xs : List X) → All (λ x. f x ≡ pos 0) xs → total f xs ≡ pos 0
+  sum_none : (f : X → ℤ) (xs : List X) → AllByRecursion (λ x. f x ≡ pos 0) xs → total f xs ≡ pos 0
   sum_none f [] a = refl
   sum_none f (x ∷ xs) a = ap₂ ◌+ℤ◌ a.0 (sum_none f xs a.1)
 
@@ -37,13 +37,13 @@ module _ {X : Type 0} (key : X → ℕ) where
   single f k (x ∷ xs) a = by_test (eqb k (key x))
       (λ e.
       let same : k ≡ key x = eqb-true k (key x) e in
-      let none : All (λ y. cond (eqb (key y) k) (f y) (pos 0) ≡ pos 0) xs = All-weaker _ _ (λ y h. ap (λ b. cond b (f y) (pos 0)) (eqb_sym k (key y) false (ap (λ z. eqb z (key y)) same ∙ h))) xs a.0 in
+      let none : AllByRecursion (λ y. cond (eqb (key y) k) (f y) (pos 0) ≡ pos 0) xs = All-weaker _ _ (λ y h. ap (λ b. cond b (f y) (pos 0)) (eqb_sym k (key y) false (ap (λ z. eqb z (key y)) same ∙ h))) xs a.0 in
       ap₂ ◌+ℤ◌ (ap (λ b. cond b (f x) (pos 0)) (eqb_sym k (key x) true e)) (sum_none (λ y. cond (eqb (key y) k) (f y) (pos 0)) xs none) ∙ +ℤ_idr (f x) ∙ ap (λ b. of f (cond b (Some x) (lookup key xs k))) (sym e))
       (λ e.
       ap₂ ◌+ℤ◌ (ap (λ b. cond b (f x) (pos 0)) (eqb_sym k (key x) false e)) (single f k xs a.1) ∙ +ℤ_idl (of f (lookup key xs k)) ∙ ap (λ b. of f (cond b (Some x) (lookup key xs k))) (sym e))
 
   -- each record is what its key finds
-  finds_self : (xs : List X) → Apart key xs → All (λ x. lookup key xs (key x) ≡ Some x) xs
+  finds_self : (xs : List X) → Apart key xs → AllByRecursion (λ x. lookup key xs (key x) ≡ Some x) xs
   finds_self [] a = tt
   finds_self (x ∷ xs) a = (
     ap (λ b. cond b (Some x) (lookup key xs (key x))) (eq-eqb (key x) (key x) refl),
@@ -57,7 +57,7 @@ module _ {X : Type 0} (key : X → ℕ) where
       (λ e. rw e (h x (eqb-true k (key x) e)))
       (λ e. rw e (of_same f g k xs h))
 
-  all_map : (P : ℕ → Type 0) (xs : List X) → All (λ x. P (key x)) xs → All P (map key xs)
+  all_map : (P : ℕ → Type 0) (xs : List X) → AllByRecursion (λ x. P (key x)) xs → AllByRecursion P (map key xs)
   all_map P [] a = tt
   all_map P (x ∷ xs) a = (a.0, all_map P xs a.1)
 
@@ -65,7 +65,7 @@ module _ {X : Type 0} (key : X → ℕ) where
   keys_apart [] a = tt
   keys_apart (x ∷ xs) a = (all_map (λ j. eqb (key x) j ≡ false) xs a.0, keys_apart xs a.1)
 
-split : (n k : ℕ) (ks : List ℕ) (z : ℤ) → All (λ j. eqb k j ≡ false) ks → cond (eqb n k || any (eqb n) ks) z (pos 0) ≡ cond (eqb n k) z (pos 0) +ℤ cond (any (eqb n) ks) z (pos 0)
+split : (n k : ℕ) (ks : List ℕ) (z : ℤ) → AllByRecursion (λ j. eqb k j ≡ false) ks → cond (eqb n k || any (eqb n) ks) z (pos 0) ≡ cond (eqb n k) z (pos 0) +ℤ cond (any (eqb n) ks) z (pos 0)
 split n k ks z a = by_test (eqb n k)
     (λ e.
     let same : n ≡ k = eqb-true n k e in
@@ -106,7 +106,7 @@ module _ {L I : Type 0} (code : L → ℕ) (planned : L → ℤ) (key currency :
       ∙ sym (sum_kept (λ i. eqb c (currency i) && any (eqb (key i)) (map code ls)) (λ i. v i (of planned (lookup code ls (key i)))) xs)
 
 -- ---- keys that rise are apart
-all_later : {X : Type 0} (key : X → ℕ) (k : ℕ) (xs : List X) → ((i : ℕ) (d : X) → i < length xs → k < key (get_or xs i d)) → All (λ y. eqb k (key y) ≡ false) xs
+all_later : {X : Type 0} (key : X → ℕ) (k : ℕ) (xs : List X) → ((i : ℕ) (d : X) → i < length xs → k < key (get_or xs i d)) → AllByRecursion (λ y. eqb k (key y) ≡ false) xs
 all_later key k [] h = tt
 all_later key k (y ∷ ys) h = (ne_eqb k (key y) (λ e. omega (arith, h 0 y (omega arith))), all_later key k ys (λ i x l. h (suc i) x (omega arith)))
 

@@ -2,7 +2,7 @@
 use Rattle.std.proofs.Common.{◌≡◌, ℕ, zero, suc, ◌+◌, ◌*◌, ◌<◌, ◌≤◌, Bool, true, false, cond, List, [], ◌∷◌, length, drop, ℤ, pos, negsuc, nat_abs, Some, None, Option, refl, ap, ◌∙◌, add-one, arith}
 use Rattle.std.proofs.lemmas.List.{at_drop_all}
 use Rattle.std.proofs.lemmas.Int.{ints, clamps, by_lt_z}
-use Rattle.std.specs.List.{slice_get, AllByRecursion as All}
+use Rattle.std.specs.List.{slice_get, AllByRecursion}
 use Rattle.std.specs.Int.{int_min}
 use Rattle.std.specs.Option.{option_map}
 use Rattle.rates.specs.Pieces.{from_one}
@@ -41,12 +41,12 @@ module _ {X : Type 0} (f : X → ℤ) where
   lower_start x false ps = refl
 
 -- what holds of each holds of the one at a place
-all_nth : {X : Type 0} (P : X → Type 0) (xs : List X) (j : ℕ) (x : X) → slice_get xs j ≡ Some x → All P xs → P x
+all_nth : {X : Type 0} (P : X → Type 0) (xs : List X) (j : ℕ) (x : X) → slice_get xs j ≡ Some x → AllByRecursion P xs → P x
 all_nth P [] j x e all = let z : ◌≡◌ {A = ℕ} 0 1 = cc in absurd (omega arith)
 all_nth P (y ∷ ys) zero x e all = let same : y ≡ x = cc in rw same at all.0
 all_nth P (y ∷ ys) (suc j) x e all = all_nth P ys j x e all.1
 
-pub all_from_one : {X : Type 0} (P : X → Type 0) (xs : List X) (k : ℕ) (x : X) → from_one xs k ≡ Some x → All P xs → P x
+pub all_from_one : {X : Type 0} (P : X → Type 0) (xs : List X) (k : ℕ) (x : X) → from_one xs k ≡ Some x → AllByRecursion P xs → P x
 all_from_one P xs zero x e all = let z : ◌≡◌ {A = ℕ} 0 1 = cc in absurd (omega arith)
 all_from_one P xs (suc j) x e all = all_nth P xs j x e all
 
