@@ -4,4 +4,7 @@ pub mod Narrows
 pub mod Lookups
 pub mod Puts
 pub mod Changes
+pub mod Ranges
+pub mod Reputs
 pub mod Tables
+pub mod Reordered

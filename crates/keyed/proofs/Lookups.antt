@@ -1,6 +1,6 @@
 -- Look-ups in lists whose keys rise: after each edit, and that they say which list it is.
-use Rattle.std.proofs.Common.{◌≡◌, ℕ, zero, suc, ◌+◌, ◌-◌, ◌<◌, ◌≤◌, false, cond, eqb, List, [], ◌∷◌, length, get_or, set, Some, None, Option, sym, refl, ap, ◌∙◌, inl, inr, arith}
-use Rattle.std.specs.List.{insert, remove}
+use Rattle.std.proofs.Common.{◌≡◌, ℕ, zero, suc, ◌+◌, ◌-◌, ◌<◌, ◌≤◌, false, cond, eqb, List, [], ◌∷◌, length, get_or, set, Some, None, Option, sym, refl, ap, ◌∙◌, subst, inl, inr, arith}
+use Rattle.std.specs.List.{insert, remove, ContainsAt as Has}
 use Rattle.std.proofs.lemmas.List.{length-set, get_or-set_same, get_or-set_other, get_or_default}
 use Rattle.std.proofs.lemmas.List.Edits.{length-insert, length-remove, get_or-insert_below, get_or-insert_at, get_or-insert_above, get_or-remove_below, get_or-remove_above}
 use Rattle.std.proofs.lemmas.Bool.{cases_lt, cases_order, cases_Bool, eq-eqb, ne_eqb, eqb-true, cond-true, cond-false}
@@ -8,7 +8,7 @@ use Rattle.keyed.proofs.Far.{Far, far, near}
 use Rattle.keyed.specs.Rows.{Rising, lookup, Stands, Gap}
 
 -- two tests of q that do not both pass can be made in either order
-swap : {Y : Type 0} (q a b : ℕ) (u v w : Y) → (a ≡ b → ⊥) → cond (eqb q a) u (cond (eqb q b) v w) ≡ cond (eqb q b) v (cond (eqb q a) u w)
+pub swap : {Y : Type 0} (q a b : ℕ) (u v w : Y) → (a ≡ b → ⊥) → cond (eqb q a) u (cond (eqb q b) v w) ≡ cond (eqb q b) v (cond (eqb q a) u w)
 swap q a b u v w apart =
     elim (cases_Bool (eqb q a)) [
       | inl s ↦ let f : eqb q b ≡ false = ne_eqb q b (λ e. apart (sym (eqb-true q a s) ∙ e)) in rw (s, f)
@@ -61,6 +61,9 @@ module _ {R : Type 0} (key : R → ℕ) where
       let l : key x < key (get_or xs i d) = first x xs up i d (omega arith) in
       cond-false (eqb (key (get_or xs i d)) (key x)) (Some x) (lookup key xs (key (get_or xs i d))) (ne_eqb (key (get_or xs i d)) (key x) (λ e. omega arith))
       ∙ lookup_at xs i d (rest x xs up) (omega arith)
+
+  pub lookup_has : (xs : List R) (x : R) → Rising key xs → Has xs x → lookup key xs (key x) ≡ Some x
+  lookup_has xs x up h = subst (λ (y : R). lookup key xs (key y) ≡ Some y) (h.2 x) (lookup_at xs h.0 x up h.1)
 
   pub lookup_stands : (xs : List R) (q i : ℕ) (d : R) → Rising key xs → Stands key xs q i → lookup key xs q ≡ Some (get_or xs i d)
   lookup_stands xs q i d up s = ap (lookup key xs) (sym (s.here d)) ∙ lookup_at xs i d up s.within

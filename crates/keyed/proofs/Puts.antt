@@ -8,13 +8,13 @@ use Rattle.keyed.proofs.Lookups.{rest, first, lookup_at}
 
 module _ {R : Type 0} (key : R → ℕ) where
   -- ---- `with_row` at a record's key and the first one's
-  with_less : (x y : R) (ys : List R) → key x < key y → with_row key (y ∷ ys) x ≡ x ∷ y ∷ ys
+  pub with_less : (x y : R) (ys : List R) → key x < key y → with_row key (y ∷ ys) x ≡ x ∷ y ∷ ys
   with_less x y ys l = cond-true _ _ _ (lt-ltb (key x) (key y) l)
 
-  with_same : (x y : R) (ys : List R) → key x ≡ key y → with_row key (y ∷ ys) x ≡ x ∷ ys
+  pub with_same : (x y : R) (ys : List R) → key x ≡ key y → with_row key (y ∷ ys) x ≡ x ∷ ys
   with_same x y ys e = cond-false _ _ _ (le-ltb (key x) (key y) (omega arith)) ∙ cond-true _ _ _ (eq-eqb (key x) (key y) e)
 
-  with_more : (x y : R) (ys : List R) → key y < key x → with_row key (y ∷ ys) x ≡ y ∷ with_row key ys x
+  pub with_more : (x y : R) (ys : List R) → key y < key x → with_row key (y ∷ ys) x ≡ y ∷ with_row key ys x
   with_more x y ys l = cond-false _ _ _ (le-ltb (key x) (key y) (omega arith)) ∙ cond-false _ _ _ (ne_eqb (key x) (key y) (λ e. omega arith))
 
   -- ---- the places' edits

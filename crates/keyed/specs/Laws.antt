@@ -1,6 +1,7 @@
 -- What holds of every list of records whose keys rise, and of its changes.
-use Rattle.std.specs.Prelude.{◌≡◌, ℕ, ◌+◌, List, [], ◌∷◌, ◌++◌, length, ℤ, pos, ◌+ℤ◌, IfSome, Some, None, sum_by, Option, ◌≢◌}
+use Rattle.std.specs.Prelude.{◌≡◌, ℕ, ◌+◌, not, List, [], ◌∷◌, ◌++◌, length, ℤ, pos, ◌+ℤ◌, IfSome, Some, None, sum_by, filter, Option, ◌==◌, ◌≢◌}
 use Rattle.std.specs.Option.{option_to_list}
+use Rattle.keyed.specs.Reordered.{Reordered}
 use Rattle.keyed.specs.Rows.{Rising, lookup, with_row, without, put, Counted}
 
 -- the sum of f over the records
@@ -47,6 +48,15 @@ module _ {R : Type 0} (key : R → ℕ) where
 
   abbrev pub Placed : Type 0
   Placed = (xs : List R) (k : ℕ) → Rising key xs → Place xs k
+
+  -- the records with other keys than k
+  abbrev pub all_but : List R → ℕ → List R
+  all_but xs k = filter (λ x. not (k == key x)) xs
+
+  -- a change puts the new record to those with other keys, in some order
+  pub record Reordering : Type 0 where
+    pub without_is : (xs : List R) (k : ℕ) → Rising key xs → without key xs k ≡ all_but xs k
+    pub put_is : (xs : List R) (k : ℕ) (w : Option R) → Rising key xs → Under k w → Reordered (put key xs k w) (option_to_list w ++ all_but xs k)
 
   -- how many records there are after a change
   pub record Sized : Type 0 where

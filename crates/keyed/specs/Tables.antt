@@ -1,17 +1,23 @@
 -- What a table holds.
-use Rattle.std.specs.Prelude.{◌≡◌, ℕ, ◌<◌, true, List, length, take, is_some, Some, None, Ok, Err, vec_items, Option, Result, ◌≢◌}
+use Rattle.std.specs.Prelude.{◌≡◌, ℕ, ◌<◌, Bool, true, not, ◌&&◌, List, [], ◌∷◌, ◌++◌, length, take, is_some, Some, None, Ok, Err, vec_items, Option, Result, ◌≢◌, nat_le}
 use Rattle.keyed.specs.declared.table.Table.{Table}
 use Rattle.keyed.specs.declared.table.Refusal.{Refusal}
 use Rattle.keyed.specs.declared.table.Refusal.TheVariants.{Taken, Full}
 use Rattle.keyed.specs.Rows.{Rising, lookup, Stands, Gap, put}
 
--- its records, in the order of their keys
+-- its records, from the first place on
 abbrev pub entries : {R : Type 0} → Table R → List R
 entries t = take t.used (vec_items t.places)
 
 -- how many of its places serve
 abbrev pub room : {R : Type 0} → Table R → ℕ
 room t = t.limit
+
+-- what `append` answers: the record is in, after all others; or each place is used
+abbrev pub Appends : {R : Type 0} → Table R → Table R → R → Result (Unit {0}) Refusal → Type 0
+Appends s t x (Ok u) = (length (entries s) < room s) × (entries t ≡ entries s ++ x ∷ []) × (room t ≡ room s)
+Appends s t x (Err Taken) = ⊥
+Appends s t x (Err Full) = (length (entries s) ≡ room s) × (t ≡ s)
 
 module _ {R : Type 0} (key : R → ℕ) where
   -- the keys rise
@@ -45,6 +51,10 @@ module _ {R : Type 0} (key : R → ℕ) where
   abbrev pub Replaces : Table R → Table R → R → Option R → Type 0
   Replaces s t x None = (holds s (key x) ≡ None) × (t ≡ s)
   Replaces s t x (Some y) = (holds s (key x) ≡ Some y) × Sets s t (key x) (Some x)
+
+  -- w is a record with a new key, and every place is used
+  abbrev pub no_place : Table R → ℕ → Option R → Bool
+  no_place t k w = is_some w && not (is_some (holds t k)) && nat_le (room t) (length (entries t))
 
   -- no record, and n places that serve
   pub record Fresh (t : Table R) (n : ℕ) : Type 0 where

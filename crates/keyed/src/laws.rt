@@ -1,5 +1,5 @@
 // The laws of changes, look-ups and sums. A function here does nothing: its contract is the law.
-ghost use Rattle.keyed.specs.Laws.{LookedUp, Decided, KeysCounted, TakenBack, Placed, Sized, Sums};
+ghost use Rattle.keyed.specs.Laws.{LookedUp, Decided, KeysCounted, TakenBack, Placed, Reordering, Sized, Sums};
 
 use crate::keys::Keyed;
 
@@ -26,6 +26,11 @@ pub fn taken_back<R: Keyed>()
 // A change changes one place.
 pub fn placed<R: Keyed>()
     ensures { Placed R.Keyed.key }
+{}
+
+// A change puts the new record to those with other keys, in some order.
+pub fn reordered<R: Keyed>()
+    ensures { Reordering R.Keyed.key }
 {}
 
 // How many records there are after a change.

@@ -7,5 +7,5 @@ pub mod slices;
 pub mod table;
 
 pub use keys::{Key, Keyed};
-pub use slices::{add, find, remove};
+pub use slices::{add, find, range, remove};
 pub use table::{Refusal, Table};

@@ -1,7 +1,7 @@
 // Slices whose first places hold records with rising keys.
 ghost use Rattle.std.specs.Prelude.{◌≡◌, ◌+◌, ◌-◌, ◌<◌, ◌≤◌, min, length, take, drop};
 ghost use Rattle.std.specs.List.{insert, remove};
-ghost use Rattle.keyed.specs.Rows.{Rising, Sought, Within};
+ghost use Rattle.keyed.specs.Rows.{Rising, Sought, Within, Cut, ranked_between};
 
 use crate::keys::{Key, Keyed};
 use std::cmp::Ordering;
@@ -23,6 +23,37 @@ pub fn find<R: Keyed>(table: &[R], used: usize, key: R::Key) -> Result<usize, us
         }
     }
     Err(low)
+}
+
+// The records with keys from `low` to `high`, which stand together.
+pub fn range<R: Keyed>(rows: &[R], low: R::Key, high: R::Key) -> &[R]
+    ensures { Rising R.Keyed.key rows.now → result.now ≡ ranked_between R.Keyed.key (R.Key.Key.rank low) (R.Key.Key.rank high) rows.now }
+{
+    let from = count_below(rows, low);
+    let to = count_up_to(rows, high);
+    &rows[from..to.max(from)]
+}
+
+// How many records have keys below `key`.
+fn count_below<R: Keyed>(rows: &[R], key: R::Key) -> usize
+    ensures within { result ≤ length rows.now }
+    ensures cut { Rising R.Keyed.key rows.now → Cut R.Keyed.key rows.now (R.Key.Key.rank key) result }
+{
+    match find(rows, rows.len(), key) {
+        Ok(at) => at,
+        Err(at) => at,
+    }
+}
+
+// How many records have keys up to `key`.
+fn count_up_to<R: Keyed>(rows: &[R], key: R::Key) -> usize
+    ensures within { result ≤ length rows.now }
+    ensures cut { Rising R.Keyed.key rows.now → Cut R.Keyed.key rows.now (R.Key.Key.rank key + 1) result }
+{
+    match find(rows, rows.len(), key) {
+        Ok(at) => at + 1,
+        Err(at) => at,
+    }
 }
 
 // Puts `row` at `at`, and the records from there on one place up, into the first free place.

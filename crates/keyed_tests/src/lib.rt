@@ -89,6 +89,30 @@ mod tests {
         Ok(())
     }
 
+    // The lines of one portfolio stand together; then two others come in the place of all.
+    #[test]
+    fn parts(rt: HostRuntime) -> Result<(), Fail> {
+        let places = vec![in rt.alloc(); line(0, 0, 0); 3]?;
+        let mut table = Table::new(places, 3);
+        assert_eq!(rt; table.insert(line(2, 7, 1)), Ok(()));
+        assert_eq!(rt; table.insert(line(3, 1, 1)), Ok(()));
+        assert_eq!(rt; table.insert(line(2, 5, 1)), Ok(()));
+        let part = table.between((2, 0), (2, 65_535));
+        assert!(rt; part.len() == 2);
+        assert_eq!(rt; part[0], line(2, 5, 1));
+        assert_eq!(rt; part[1], line(2, 7, 1));
+        assert!(rt; table.between((3, 2), (2, 9)).is_empty());
+        table.load(&[line(4, 0, 0), line(3, 0, 0)]);
+        assert!(rt; !table.is_full());
+        assert_eq!(rt; table.append(line(1, 0, 0)), Ok(()));
+        assert_eq!(rt; table.append(line(5, 0, 0)), Err(Refusal::Full));
+        assert!(rt; table.is_full());
+        let rows = table.rows();
+        assert!(rt; rows.len() == 3);
+        assert_eq!(rt; rows[2], line(1, 0, 0));
+        Ok(())
+    }
+
     fn line(portfolio: u16, code: u16, quantity: u32) -> Line {
         Line {
             portfolio,

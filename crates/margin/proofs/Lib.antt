@@ -14,3 +14,5 @@ pub mod Sizes
 pub mod Places
 pub mod CashFigures
 pub mod Scans
+pub mod Reorders
+pub mod Same

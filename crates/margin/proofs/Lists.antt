@@ -1,5 +1,5 @@
 -- Tests, filters and members of lists.
-use Rattle.std.proofs.Common.{◌≡◌, ℕ, zero, suc, ◌<◌, Bool, true, false, cond, ◌⊎◌, List, [], ◌∷◌, ◌++◌, length, get_or, filter, sym, refl, ap, ◌∙◌, subst, inl, inr, ⊎_elim, arith}
+use Rattle.std.proofs.Common.{◌≡◌, ℕ, zero, suc, ◌<◌, Bool, true, false, cond, ◌||◌, ◌⊎◌, List, [], ◌∷◌, ◌++◌, length, get_or, filter, sym, refl, ap, ◌∙◌, subst, ap₂, inl, inr, ⊎_elim, arith}
 use Rattle.std.specs.List.{ContainsAt as Has, AllByRecursion}
 use Rattle.std.proofs.lemmas.Bool.{cond_both, or_parts, or_cases, or_left, or_right, both_ways}
 use Rattle.margin.specs.Numbers.{any}
@@ -80,3 +80,7 @@ kept_swap s t (x ∷ xs) =
 pub kept_like : {X : Type 0} (s t : X → Bool) (xs : List X) → AllByRecursion (λ x. s x ≡ t x) xs → filter s xs ≡ filter t xs
 kept_like s t [] a = refl
 kept_like s t (x ∷ xs) a = rw a.0 (ap (cond (t x) (x ∷ filter s xs)) (kept_like s t xs a.1) ∙ ap (λ l. cond (t x) (x ∷ l) (filter t xs)) (kept_like s t xs a.1))
+
+pub any_like : {X : Type 0} (s t : X → Bool) (xs : List X) → AllByRecursion (λ x. s x ≡ t x) xs → any s xs ≡ any t xs
+any_like s t [] a = refl
+any_like s t (x ∷ xs) a = ap₂ ◌||◌ a.0 (any_like s t xs a.1)

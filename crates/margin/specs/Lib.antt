@@ -8,3 +8,4 @@ pub mod Limits
 pub mod Facts
 pub mod Cash
 pub mod Keys
+pub mod Same

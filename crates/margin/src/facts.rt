@@ -1,5 +1,6 @@
 // What is true of one portfolio, each fact proved. The functions do nothing: a contract is where a fact is read.
 ghost use Rattle.margin.specs.Facts.{WorstCaseIsLeastOverFillings, FillingsAreLists, NoughtIsWorthNought, WorthAtMostPriceTimesQuantity, ShockedAtMostItself, FirstRatioAtMostValue, InitialMarginNeverNegative, MinimumMarginIsHalfRoundedUp, WorstCaseAtMostFirstRatio, MoreCashNeverLowers, MoreUnitsNeverLower, FewerOrdersNeverLower, FillWithinOwnPriceNeverLowers, IdleLinesChangeNoFigure, IdleLinesChangeNoGross};
+ghost use Rattle.margin.specs.Same.{OrderOfListingChangesNoFigure};
 
 // The worst case, which a formula gives, is the least first ratio over all fillings of the standing orders.
 pub fn worst_case_is_least() -> u8
@@ -42,6 +43,13 @@ pub fn worst_case_not_lowered() -> u8
 pub fn idle_lines_count_nothing() -> u8
     ensures figures { IdleLinesChangeNoFigure }
     ensures gross { IdleLinesChangeNoGross }
+{
+    0
+}
+
+// The order in which lines and orders are listed counts for nothing.
+pub fn listing_counts_nothing() -> u8
+    ensures { OrderOfListingChangesNoFigure }
 {
     0
 }

@@ -63,5 +63,6 @@ mod cash;
 mod currencies;
 pub mod facts;
 mod instruments;
+mod orders;
 
 pub use cash::{cash_figures, figures_from, in_roubles};

@@ -1,10 +1,11 @@
-ghost use Rattle.std.specs.Prelude.{◌≡◌, ◌<◌, min, length, IfSome, Some, None, vec_len, slice_index_or};
-ghost use Rattle.keyed.specs.Rows.{Stands, Gap};
-ghost use Rattle.keyed.specs.Tables.{entries, room, Sound, holds, Located, Sets, Inserts, Replaces, Fresh};
+ghost use Rattle.std.specs.Prelude.{◌≡◌, ◌<◌, ◌≤◌, min, false, length, IfSome, Some, None, vec_len, nat_le, slice_index_or};
+ghost use Rattle.keyed.specs.Rows.{Stands, Gap, ranked_between};
+ghost use Rattle.keyed.specs.Laws.{Under};
+ghost use Rattle.keyed.specs.Tables.{no_place, entries, room, Sound, holds, Located, Sets, Inserts, Appends, Replaces, Fresh};
 
 use super::{Refusal, Table};
 use crate::keys::Keyed;
-use crate::slices::{add, find, remove};
+use crate::slices::{add, find, range, remove};
 
 impl<R: Keyed + Copy> Table<R> {
     // A table with no record. Of the places at most `most` serve.
@@ -19,7 +20,7 @@ impl<R: Keyed + Copy> Table<R> {
         }
     }
 
-    // The records, in the order of their keys.
+    // The records, from the first place on: in a sound table, in the order of their keys.
     pub fn rows(&self) -> &[R]
         ensures { result.now ≡ entries self.now }
     {
@@ -33,7 +34,14 @@ impl<R: Keyed + Copy> Table<R> {
         self.rows().len()
     }
 
-    // The record at a place: the first has the lowest key.
+    // Whether each place that serves holds a record.
+    pub fn is_full(&self) -> bool
+        ensures { result ≡ nat_le (room self.now) (length (entries self.now)) }
+    {
+        self.limit <= self.len()
+    }
+
+    // The record at a place: in a sound table the first has the lowest key.
     pub fn row(&self, at: usize) -> R
         requires { at < length (entries self.now) }
         ensures { result ≡ slice_index_or (entries self.now) at result }
@@ -51,6 +59,14 @@ impl<R: Keyed + Copy> Table<R> {
             Ok(at) => Some(self.standing(key, at)),
             Err(_) => None,
         }
+    }
+
+    // The records with keys from `low` to `high`.
+    pub fn between(&self, low: R::Key, high: R::Key) -> &[R]
+        requires { Sound R.Keyed.key self.now }
+        ensures { result.now ≡ ranked_between R.Keyed.key (R.Key.Key.rank low) (R.Key.Key.rank high) (entries self.now) }
+    {
+        range(self.rows(), low, high)
     }
 
     // Puts a record with a new key in, where there is a free place.
@@ -91,6 +107,57 @@ impl<R: Keyed + Copy> Table<R> {
             Ok(at) => Some(self.take_out(key, at)),
             Err(_) => None,
         }
+    }
+
+    // Puts at the key what is given: a record that has it, or none.
+    pub fn set(&mut self, key: R::Key, row: Option<R>)
+        requires sound { Sound R.Keyed.key self.old }
+        requires under { Under R.Keyed.key (R.Key.Key.rank key) row }
+        requires place { no_place R.Keyed.key self.old (R.Key.Key.rank key) row ≡ false }
+        ensures { Sets R.Keyed.key self.old self.new (R.Key.Key.rank key) row }
+    {
+        match row {
+            Some(row) => self.set_row(key, row),
+            None => {
+                let _ = self.remove(key);
+            }
+        }
+    }
+
+    fn set_row(&mut self, key: R::Key, row: R)
+        requires sound { Sound R.Keyed.key self.old }
+        requires under { R.Keyed.key row ≡ R.Key.Key.rank key }
+        requires place { no_place R.Keyed.key self.old (R.Key.Key.rank key) (Some row) ≡ false }
+        ensures { Sets R.Keyed.key self.old self.new (R.Key.Key.rank key) (Some row) }
+    {
+        match self.place(key) {
+            Ok(at) => {
+                let _ = self.write(at, row);
+            }
+            Err(at) => self.put_in(at, row),
+        }
+    }
+
+    // Puts a record after all others, whatever its key, where there is a free place.
+    pub fn append(&mut self, row: R) -> Result<(), Refusal>
+        ensures { Appends self.old self.new row result }
+    {
+        if self.is_full() {
+            return Err(Refusal::Full);
+        }
+        self.places[self.used] = row;
+        self.used += 1;
+        Ok(())
+    }
+
+    // Puts the records in the place of all that there are.
+    pub fn load(&mut self, rows: &[R])
+        requires { length rows.now ≤ room self.old }
+        ensures records { entries self.new ≡ rows.now }
+        ensures room { room self.new ≡ room self.old }
+    {
+        self.places[0..rows.len()].copy_from_slice(rows);
+        self.used = rows.len();
     }
 
     // Takes every record out.

@@ -1,0 +1,59 @@
+-- In a list whose keys rise, the records with keys between two numbers stand together.
+use Rattle.std.proofs.Common.{◌≡◌, ℕ, zero, suc, ◌+◌, ◌-◌, ◌<◌, ◌≤◌, max, Bool, true, false, ◌&&◌, leb, List, [], ◌∷◌, length, get_or, take, drop, filter, Result, sym, refl, ap, ◌∙◌, subst, arith}
+use Rattle.std.proofs.lemmas.List.{take_all}
+use Rattle.std.proofs.lemmas.Bool.{cond-true, cond-false, and_from, and_left, and_right, le-leb, lt-leb}
+use Rattle.keyed.specs.Rows.{Rising, Stands, Gap, Sought, Cut, ranked_between}
+use Rattle.keyed.proofs.Far.{far, level}
+
+-- what passes a test stands together, where it is the n records from i on
+stand_together : {R : Type 0} (p : R → Bool) (xs : List R) (i n : ℕ)
+    → ((k : ℕ) (d : R) → k < i → p (get_or xs k d) ≡ false)
+    → ((k : ℕ) (d : R) → i ≤ k → k < i + n → k < length xs → p (get_or xs k d) ≡ true)
+    → ((k : ℕ) (d : R) → i + n ≤ k → k < length xs → p (get_or xs k d) ≡ false)
+    → take n (drop i xs) ≡ filter p xs
+stand_together p [] zero zero before here after = refl
+stand_together p [] zero (suc n) before here after = refl
+stand_together p [] (suc i) zero before here after = refl
+stand_together p [] (suc i) (suc n) before here after = refl
+stand_together p (x ∷ xs) (suc i) n before here after =
+    stand_together p xs i n (λ k d l. before (suc k) d (omega arith)) (λ k d l m h. here (suc k) d (omega arith) (omega arith) (omega arith)) (λ k d l h. after (suc k) d (omega arith) (omega arith))
+    ∙ sym (cond-false (p x) (x ∷ filter p xs) (filter p xs) (before 0 x (omega arith)))
+stand_together p (x ∷ xs) zero (suc n) before here after =
+    ap (λ (ys : List _). x ∷ ys) (stand_together p xs zero n (λ k d l. absurd (omega arith)) (λ k d l m h. here (suc k) d (omega arith) (omega arith) (omega arith)) (λ k d l h. after (suc k) d (omega arith) (omega arith)))
+    ∙ sym (cond-true (p x) (x ∷ filter p xs) (filter p xs) (here 0 x (omega arith) (omega arith) (omega arith)))
+stand_together p (x ∷ xs) zero zero before here after =
+    stand_together p xs zero zero (λ k d l. absurd (omega arith)) (λ k d l m h. absurd (omega arith)) (λ k d l h. after (suc k) d (omega arith) (omega arith))
+    ∙ sym (cond-false (p x) (x ∷ filter p xs) (filter p xs) (after 0 x (omega arith) (omega arith)))
+
+module _ {R : Type 0} (key : R → ℕ) where
+  -- a search of all places is one of the list
+  pub sought_all : (xs : List R) (q : ℕ) (r : Result ℕ ℕ) → (Rising key (take (length xs) xs) → Sought key (take (length xs) xs) q r) → Rising key xs → Sought key xs q r
+  sought_all xs q r = subst (λ (ys : List R). (Rising key ys → Sought key ys q r)) (take_all (length xs) xs (omega arith))
+
+  -- ---- where a search cuts the list: before the key that it finds, and after it
+  pub stands_before : (xs : List R) (q i : ℕ) → Rising key xs → Stands key xs q i → Cut key xs q i
+  stands_before xs q i up s =
+      record {
+        below = λ k d l. omega (arith, far key xs up k i d l s.within, s.here d);
+        beyond = λ k d l h. omega (arith, level key xs up i k d l h, s.here d);
+      }
+
+  pub stands_after : (xs : List R) (q i : ℕ) → Rising key xs → Stands key xs q i → Cut key xs (q + 1) (i + 1)
+  stands_after xs q i up s =
+      record {
+        below = λ k d l. omega (arith, level key xs up k i d (omega arith) s.within, s.here d);
+        beyond = λ k d l h. omega (arith, far key xs up i k d (omega arith) h, s.here d);
+      }
+
+  pub gap_before : (xs : List R) (q i : ℕ) → Gap key xs q i → Cut key xs q i
+  gap_before xs q i g = record { below = g.below; beyond = λ k d l h. omega (arith, g.above k d l h) }
+
+  pub gap_after : (xs : List R) (q i : ℕ) → Gap key xs q i → Cut key xs (q + 1) i
+  gap_after xs q i g = record { below = λ k d l. omega (arith, g.below k d l); beyond = λ k d l h. omega (arith, g.above k d l h) }
+
+  pub range_is : (xs : List R) (low high i j : ℕ) → Cut key xs low i → Cut key xs (high + 1) j → take (max j i - i) (drop i xs) ≡ ranked_between key low high xs
+  range_is xs low high i j from to =
+      stand_together (λ x. leb low (key x) && leb (key x) high) xs i (max j i - i)
+      (λ k d l. and_left (leb low (key (get_or xs k d))) (leb (key (get_or xs k d)) high) (lt-leb low (key (get_or xs k d)) (from.below k d l)))
+      (λ k d l m h. and_from (leb low (key (get_or xs k d))) (leb (key (get_or xs k d)) high) (le-leb low (key (get_or xs k d)) (from.beyond k d l h)) (le-leb (key (get_or xs k d)) high (omega (arith, to.below k d (omega arith)))))
+      (λ k d l h. and_right (leb low (key (get_or xs k d))) (leb (key (get_or xs k d)) high) (lt-leb (key (get_or xs k d)) high (omega (arith, to.beyond k d (omega arith) h))))
