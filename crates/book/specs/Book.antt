@@ -60,7 +60,7 @@ abbrev pub fields_of : List ℕ → ℕ → List Entry
 fields_of bs p = fields_from (length bs) bs p
 
 -- only so many bytes of a book are read; its first byte has the place 1
-abbrev pub fields : List ℕ → List Entry
+unfoldable pub fields : List ℕ → List Entry
 fields bs = fields_of (take 65536 bs) 1
 
 -- ---- what the reader hands on, with its references read

@@ -27,6 +27,6 @@ pub trait RateSource {
     fn piece(&self, code: u16, k: usize) -> Option<Piece>
         ensures { result ≡ from_one (pieces self.now code) k };
 
-    // The pieces of a code that is known keep the rules, and are at most so many.
+    // The pieces of a code that is known keep the rules, and are at most `most`.
     ghost lawful: { (s : Self) (code : ℕ) → 0 < length (pieces s code) → Lawful most (pieces s code) };
 }

@@ -1,12 +1,13 @@
 use Rattle.std.proofs.Common.{ℕ, ◌-◌, List, ◌++◌, map, length, take, is_ok, ap, ◌∙◌, arith, length-take}
 use Rattle.std.proofs.ResultArms.{chosen}
-use Rattle.book.specs.Book.{Front, fields_of, seen}
+use Rattle.book.specs.Book.{Front, fields, fields_of, seen}
 use Rattle.book.specs.declared.reader.Item.{Item}
 use Rattle.book.proofs.Books.{shorter, told, turn}
 use Rattle.book.proofs.Fronts.{taken}
 use Rattle.book.proofs.reader.read_book.Goals as goal
 
 pub loop-item-init : goal.loop-item-init
+unfolding fields
 loop-item-init c =
     let t = taken 65536 c.min.result c.args.book.now c.min.ensures in (
       ap (λ (is : List Item). map seen is ++ fields_of (take (c.min.result - 0) c.args.book.now) 1) c.new-items.ensures.items ∙ ap (λ (bs : List ℕ). fields_of bs 1) t,
