@@ -3,21 +3,17 @@ ghost use Rattle.margin.specs.Facts.{WorstCaseIsLeastOverFillings, FillingsAreLi
 ghost use Rattle.margin.specs.Same.{OrderOfListingChangesNoFigure};
 
 // The worst case, which a formula gives, is the least first ratio over all fillings of the standing orders.
-pub fn worst_case_is_least() -> u8
+pub fn worst_case_is_least()
     ensures { WorstCaseIsLeastOverFillings }
-{
-    0
-}
+{}
 
 // A filling as a function of orders and as a list of numbers say the same.
-pub fn fillings_are_lists() -> u8
+pub fn fillings_are_lists()
     ensures { FillingsAreLists }
-{
-    0
-}
+{}
 
 // The worst case is at most the first ratio, and that at most the value; so the initial margin is nought or more.
-pub fn figures_in_order() -> u8
+pub fn figures_in_order()
     ensures nought { NoughtIsWorthNought }
     ensures worth { WorthAtMostPriceTimesQuantity }
     ensures shocked { ShockedAtMostItself }
@@ -25,31 +21,23 @@ pub fn figures_in_order() -> u8
     ensures initial { InitialMarginNeverNegative }
     ensures minimum { MinimumMarginIsHalfRoundedUp }
     ensures worst { WorstCaseAtMostFirstRatio }
-{
-    0
-}
+{}
 
 // Cash, units, a cancelled order and a fair fill never lower the worst case.
-pub fn worst_case_not_lowered() -> u8
+pub fn worst_case_not_lowered()
     ensures cash { MoreCashNeverLowers }
     ensures units { MoreUnitsNeverLower }
     ensures orders { FewerOrdersNeverLower }
     ensures fills { FillWithinOwnPriceNeverLowers }
-{
-    0
-}
+{}
 
 // A line with nothing planned and no order counts for nothing.
-pub fn idle_lines_count_nothing() -> u8
+pub fn idle_lines_count_nothing()
     ensures figures { IdleLinesChangeNoFigure }
     ensures gross { IdleLinesChangeNoGross }
-{
-    0
-}
+{}
 
 // The order in which lines and orders are listed counts for nothing.
-pub fn listing_counts_nothing() -> u8
+pub fn listing_counts_nothing()
     ensures { OrderOfListingChangesNoFigure }
-{
-    0
-}
+{}

@@ -9,15 +9,10 @@ pub trait RateSource {
     // How many pieces a code may have.
     const MOST: usize;
 
+    ghost MOST: { ℕ };
+
     // The pieces of a code, none where it is not known.
     ghost pieces: { Self → ℕ → List margin.Piece };
-
-    // `MOST`, for the clauses.
-    ghost most: { ℕ };
-
-    // `MOST`, for loops over pieces.
-    fn limit() -> usize
-        ensures { result ≡ most };
 
     // How many pieces a code has, 0 where it is not known.
     fn count(&self, code: u16) -> usize
@@ -27,6 +22,6 @@ pub trait RateSource {
     fn piece(&self, code: u16, k: usize) -> Option<Piece>
         ensures { result ≡ from_one (pieces self.now code) k };
 
-    // The pieces of a code that is known keep the rules, and are at most `most`.
-    ghost lawful: { (s : Self) (code : ℕ) → 0 < length (pieces s code) → Lawful most (pieces s code) };
+    // The pieces of a code that is known keep the rules, and are at most `MOST`.
+    ghost lawful: { (s : Self) (code : ℕ) → 0 < length (pieces s code) → Lawful MOST (pieces s code) };
 }

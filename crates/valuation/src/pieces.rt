@@ -96,7 +96,7 @@ fn least_raw<S: RateSource>(source: &S, stake: Stake, off: bool, orders: &[Order
     ensures small { Small (reach stake.amount) result }
 {
     let mut best = first_value(stake, off, orders);
-    for i in 0..S::limit() {
+    for i in 0..S::MOST {
         best = lower_of(best, piece_at(source, stake, i + 1, orders));
     }
     best
