@@ -1,4 +1,4 @@
-use Rattle.std.proofs.Common.{ℕ, ◌≤◌, sym, ◌∙◌, subst}
+use Rattle.std.proofs.Common.{sym, ◌∙◌, subst, arith}
 use Rattle.valuation.specs.Raw.{raw_of, lowest, with_nought, Small, reach}
 use Rattle.valuation.proofs.Lowests.{lower_turn, lower_done, lower_small, within_limit}
 use Rattle.valuation.proofs.pieces.least_raw.Goals as goal
@@ -14,7 +14,7 @@ loop-i-preserved g c =
 pub returns : goal.returns
 returns g c =
     let ps = g.S.RateSource.pieces c.args.source.now c.args.stake.code in
-    let few = within_limit ps g.S.RateSource.most (λ known. (g.met.S.RateSource.lawful c.args.source.now c.args.stake.code known).at_most) c.loop-i.i (subst (λ (m : ℕ). m ≤ c.loop-i.i) c.limit-i-end.ensures c.loop-i-test.false) in
+    let few = within_limit ps g.S.RateSource.MOST (λ known. (g.met.S.RateSource.lawful c.args.source.now c.args.stake.code known).at_most) c.loop-i.i (omega arith) in
     record {
       is = sym (lower_done (raw_of c.args.orders.now c.args.stake) ps c.loop-i.i c.loop-i.best few) ∙ c.loop-i.invariant.0;
       small = c.loop-i.invariant.1;
