@@ -2,10 +2,11 @@
 use Rattle.std.proofs.Common.{◌≡◌, ℕ, ◌+◌, ◌<◌, ◌≤◌, true, false, ◌||◌, List, length, take, drop, is_some, Ok, Err, sym, refl, ap, ◌∙◌, subst, arith}
 use Rattle.std.specs.List.{insert}
 use Rattle.std.proofs.lemmas.Bool.{le-leb, lt-leb}
-use Rattle.book.specs.Ranges.{no_currency, no_fx}
+use Rattle.book.specs.Ranges.{no_currency, no_fx, ranged}
 use Rattle.book.proofs.Answers.{fails, passes}
+use Rattle.book.proofs.Refusals.{not_refused}
 use Rattle.keyed.specs.Rows.{Rising, lookup, Stands, Gap}
-use Rattle.keyed.proofs.Lookups.{lookup_at, lookup_gap, rising_inserted}
+use Rattle.keyed.proofs.Lookups.{lookup_stands, lookup_gap, rising_inserted}
 use Rattle.keyed.proofs.Puts.{inserted_is}
 use Rattle.margin.specs.declared.Currency.{Currency}
 use Rattle.margin.specs.Keys.{currency_code}
@@ -14,30 +15,31 @@ use Rattle.sheet.specs.declared.faults.SheetCause.TheVariants.{Entered, Full}
 use Rattle.sheet.specs.Faults.{out_of_range, refusal}
 use Rattle.sheet.specs.Drafts.{entries, InOrder, most, enters, EnteredIn}
 
-module _ (d : Draft) (table : List Currency) (code fx : ℕ) (ranged : (no_currency code || no_fx fx) ≡ false) (o : InOrder d table) where
-  found : (i : ℕ) → Stands currency_code (entries d table) code i → is_some (lookup currency_code (entries d table) code) ≡ true
-  found i s =
-      let x : Currency = record { code = 0; fx = 0 } in
-      ap is_some (ap (lookup currency_code (entries d table)) (sym (s.here x)) ∙ lookup_at currency_code (entries d table) i x o.rising s.within)
+-- the currency x, with its numbers in their ranges, meets a table in order
+module _ (d : Draft) (table : List Currency) (x : Currency) (u : Unit {0}) (checked : Ok u ≡ ranged (no_currency x.code || no_fx x.fx) 0) (o : InOrder d table) where
+  inside : (no_currency x.code || no_fx x.fx) ≡ false
+  inside = not_refused (no_currency x.code || no_fx x.fx) 0 u checked
 
-  missing : (i : ℕ) → Gap currency_code (entries d table) code i → is_some (lookup currency_code (entries d table) code) ≡ false
-  missing i g = ap is_some (lookup_gap currency_code (entries d table) code i g)
+  found : (i : ℕ) → Stands currency_code (entries d table) x.code i → is_some (lookup currency_code (entries d table) x.code) ≡ true
+  found i s = ap is_some (lookup_stands currency_code (entries d table) x.code i x o.rising s)
 
-  pub entered : (i : ℕ) → Stands currency_code (entries d table) code i → Err (refusal Entered) ≡ enters d table code fx
-  entered i s = passes _ out_of_range _ _ ranged (fails _ (refusal Entered) _ (found i s))
+  missing : (i : ℕ) → Gap currency_code (entries d table) x.code i → is_some (lookup currency_code (entries d table) x.code) ≡ false
+  missing i g = ap is_some (lookup_gap currency_code (entries d table) x.code i g)
 
-  pub full : (i : ℕ) → Gap currency_code (entries d table) code i → most table ≤ d.currencies → Err (refusal Full) ≡ enters d table code fx
-  full i g n = passes _ out_of_range _ _ ranged (passes _ (refusal Entered) _ _ (missing i g) (fails _ (refusal Full) _ (le-leb _ _ n)))
+  pub entered : (i : ℕ) → Stands currency_code (entries d table) x.code i → Err (refusal Entered) ≡ enters d table x.code x.fx
+  entered i s = passes _ out_of_range _ _ inside (fails _ (refusal Entered) _ (found i s))
 
-  pub room : (i : ℕ) → Gap currency_code (entries d table) code i → d.currencies < most table → Ok tt ≡ enters d table code fx
-  room i g n = passes _ out_of_range _ _ ranged (passes _ (refusal Entered) _ _ (missing i g) (passes _ (refusal Full) _ _ (lt-leb _ _ n) refl))
+  pub full : (i : ℕ) → Gap currency_code (entries d table) x.code i → most table ≤ d.currencies → Err (refusal Full) ≡ enters d table x.code x.fx
+  full i g n = passes _ out_of_range _ _ inside (passes _ (refusal Entered) _ _ (missing i g) (fails _ (refusal Full) _ (le-leb _ _ n)))
 
-  pub put_in : (i : ℕ) (d' : Draft) (table' : List Currency) → Gap currency_code (entries d table) code i → d'.currencies ≡ d.currencies + 1 → d.currencies < most table → length table' ≡ length table →
-      take (d.currencies + 1) table' ≡ insert (entries d table) i (record { code = code; fx = fx }) → drop (d.currencies + 1) table' ≡ drop (d.currencies + 1) table →
-      EnteredIn d table code fx d' table'
+  pub room : (i : ℕ) → Gap currency_code (entries d table) x.code i → d.currencies < most table → Ok tt ≡ enters d table x.code x.fx
+  room i g n = passes _ out_of_range _ _ inside (passes _ (refusal Entered) _ _ (missing i g) (passes _ (refusal Full) _ _ (lt-leb _ _ n) refl))
+
+  pub put_in : (i : ℕ) (d' : Draft) (table' : List Currency) → Gap currency_code (entries d table) x.code i → d'.currencies ≡ d.currencies + 1 → d.currencies < most table → length table' ≡ length table →
+      take (d.currencies + 1) table' ≡ insert (entries d table) i x → drop (d.currencies + 1) table' ≡ drop (d.currencies + 1) table →
+      EnteredIn d table x.code x.fx d' table'
   put_in i d' table' g n l same now rest =
-      let x : Currency = record { code = code; fx = fx } in
-      let e : entries d' table' ≡ insert (entries d table) i (record { code = code; fx = fx }) = ap (λ (k : ℕ). take k table') n ∙ now in
+      let e : entries d' table' ≡ insert (entries d table) i x = ap (λ (k : ℕ). take k table') n ∙ now in
       record {
         count = n;
         in_order = record { within = omega arith; few = omega arith; rising = subst (Rising currency_code) (sym e) (rising_inserted currency_code (entries d table) i x o.rising g) };

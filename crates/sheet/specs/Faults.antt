@@ -2,6 +2,8 @@
 use Rattle.std.specs.Prelude.{ℕ}
 use Rattle.book.specs.declared.faults.FieldCause.TheVariants.{Range}
 use Rattle.book.specs.Faults.{field_number, fault}
+use Rattle.keyed.specs.declared.table.Refusal.{Refusal}
+use Rattle.keyed.specs.declared.table.Refusal.TheVariants.{Taken, Full as Brim}
 use Rattle.sheet.specs.declared.faults.SheetCause.{SheetCause}
 use Rattle.sheet.specs.declared.faults.SheetCause.TheVariants.{Entered, Full, Incomplete, Unfit, NotInForce}
 use Rattle.sheet.specs.declared.faults.SheetFault.{SheetFault}
@@ -33,3 +35,8 @@ out_of_range = Field (fault Range 0)
 
 abbrev pub refusal : SheetCause → SheetFault
 refusal c = State c 0
+
+-- a table's refusal of an entry, as a sheet's
+abbrev pub refused : Refusal → SheetFault
+refused Taken = refusal Entered
+refused Brim = refusal Full

@@ -1,8 +1,6 @@
-// A draft and a closed sheet are moved values of plain numbers: how many of the places of their tables they use. The
-// tables are given to each call.
+// A draft and a closed sheet: how many of the places of their tables they use.
 ghost use Rattle.std.specs.Prelude.{◌≡◌, IfOk, MatchResult};
 ghost use Rattle.margin.specs.Cash.{cash_sheet};
-ghost use Rattle.sheet.specs.Faults.{refusal};
 ghost use Rattle.sheet.specs.Drafts.{InOrder, enters, EnteredIn, has_rouble_at_par, has_unrated, incomplete, closes, AsClosed};
 
 use crate::faults::{SheetCause, SheetFault};
@@ -16,50 +14,35 @@ const ROUBLE: u16 = 643;
 
 const PAR: u32 = 10_000;
 
+// A moved value of plain numbers, with its table given to each call: a rule of the project, whose memory is fixed.
 pub struct Draft {
     currencies: usize,
 }
 
+// A moved value of plain numbers, as a draft is: only closing makes one, and it is spent once.
 pub struct ClosedSheet {
     currencies: usize,
-}
-
-fn refused(cause: SheetCause) -> SheetFault
-    ensures { result ≡ refusal cause }
-{
-    SheetFault::State { cause, place: 0 }
 }
 
 fn has_rouble_at_par(entries: &[Currency]) -> bool
     ensures { result ≡ has_rouble_at_par (cash_sheet entries.now) }
 {
-    for currency in entries {
-        if currency.code == ROUBLE && currency.fx == PAR {
-            return true;
-        }
-    }
-    false
+    entries
+        .iter()
+        .any(|currency| currency.code == ROUBLE && currency.fx == PAR)
 }
 
 // No code has pieces, as no rate can be entered.
 fn has_unrated(entries: &[Currency]) -> bool
     ensures { result ≡ has_unrated (cash_sheet entries.now) }
 {
-    for currency in entries {
-        if currency.code != ROUBLE {
-            return true;
-        }
-    }
-    false
+    entries.iter().any(|currency| currency.code != ROUBLE)
 }
 
 fn is_incomplete(entries: &[Currency]) -> bool
     ensures { result ≡ incomplete (cash_sheet entries.now) }
 {
-    if !has_rouble_at_par(entries) {
-        return true;
-    }
-    has_unrated(entries)
+    !has_rouble_at_par(entries) || has_unrated(entries)
 }
 
 impl Draft {
@@ -74,20 +57,19 @@ impl Draft {
     pub fn enter_currency(
         &mut self,
         table: &mut [Currency],
-        code: u16,
-        fx: u32,
+        currency: Currency,
     ) -> Result<(), SheetFault>
-        ensures answer { InOrder self.old table.old → result ≡ enters self.old table.old code fx }
-        ensures tables { MatchResult result (λ _. InOrder self.old table.old → EnteredIn self.old table.old code fx self.new table.new) (λ _. (self.new ≡ self.old) × (table.new ≡ table.old)) }
+        ensures answer { InOrder self.old table.old → result ≡ enters self.old table.old currency.code currency.fx }
+        ensures tables { MatchResult result (λ _. InOrder self.old table.old → EnteredIn self.old table.old currency.code currency.fx self.new table.new) (λ _. (self.new ≡ self.old) × (table.new ≡ table.old)) }
     {
-        check_currency(code, fx, 0)?;
-        let Err(at) = find(table, self.currencies, code) else {
-            return Err(refused(SheetCause::Entered));
+        check_currency(currency.code, currency.fx, 0)?;
+        let Err(at) = find(table, self.currencies, currency.code) else {
+            return Err(SheetCause::Entered.into());
         };
         if self.currencies >= table.len().min(MOST_CURRENCIES) {
-            return Err(refused(SheetCause::Full));
+            return Err(SheetCause::Full.into());
         }
-        add(table, self.currencies, at, Currency { code, fx });
+        add(table, self.currencies, at, currency);
         self.currencies += 1;
         Ok(())
     }
@@ -100,7 +82,7 @@ impl Draft {
         let currencies = self.currencies.min(table.len());
         let entries = &table[0..currencies];
         if is_incomplete(entries) {
-            return Err((refused(SheetCause::Incomplete), self));
+            return Err((SheetCause::Incomplete.into(), self));
         }
         let Draft { currencies: _ } = self;
         Ok(ClosedSheet { currencies })

@@ -1,25 +1,27 @@
 // What refuses an entry, a closing or a putting in force. It holds a field's fault whole.
 ghost use Rattle.std.specs.Prelude.{◌≡◌};
 ghost use Rattle.sheet.specs.declared.faults.SheetFault.TheVariants.{Field as InField};
-ghost use Rattle.sheet.specs.Faults.{sheet_number, sheet_place, sheet_at};
+ghost use Rattle.sheet.specs.Faults.{refusal, refused, sheet_number, sheet_place, sheet_at};
 
 use book::FieldFault;
+use keyed::Refusal;
 
-#[derive(Clone, Copy)]
+// Each cause under its number.
+#[derive(Clone, Copy, Debug, PartialEq, Eq)]
 pub enum SheetCause {
     // the code is in the draft already
-    Entered,
+    Entered = 10,
     // the draft is full
-    Full,
+    Full = 11,
     // no rouble at 10,000, or a code other than the rouble without pieces
-    Incomplete,
+    Incomplete = 12,
     // the currencies are not the register's
-    Unfit,
+    Unfit = 13,
     // no sheet is in force
-    NotInForce,
+    NotInForce = 27,
 }
 
-#[derive(Clone, Copy)]
+#[derive(Clone, Copy, Debug, PartialEq, Eq)]
 pub enum SheetFault {
     Field(FieldFault),
     State { cause: SheetCause, place: usize },
@@ -33,19 +35,33 @@ impl From<FieldFault> for SheetFault {
     }
 }
 
+impl From<SheetCause> for SheetFault {
+    ghost from_gives = { λ c r. r ≡ refusal c };
+
+    fn from(cause: SheetCause) -> SheetFault {
+        SheetFault::State { cause, place: 0 }
+    }
+}
+
+// What a table's refusal of an entry means for the sheet.
+impl From<Refusal> for SheetFault {
+    ghost from_gives = { λ t r. r ≡ refused t };
+
+    fn from(refusal: Refusal) -> SheetFault {
+        match refusal {
+            Refusal::Taken => SheetCause::Entered.into(),
+            Refusal::Full => SheetCause::Full.into(),
+        }
+    }
+}
+
 impl SheetFault {
     pub fn number(&self) -> u8
         ensures { result ≡ sheet_number self.now }
     {
         match self {
             SheetFault::Field(fault) => fault.number(),
-            SheetFault::State { cause, .. } => match cause {
-                SheetCause::Entered => 10,
-                SheetCause::Full => 11,
-                SheetCause::Incomplete => 12,
-                SheetCause::Unfit => 13,
-                SheetCause::NotInForce => 27,
-            },
+            SheetFault::State { cause, .. } => *cause as u8,
         }
     }
 

@@ -1,13 +1,9 @@
-use Rattle.std.proofs.Common.{◌∙◌, arith, rules}
-use Rattle.margin.proofs.Scans.{any_skip, any_hit, any_end}
+use Rattle.std.proofs.Common.{◌∙◌, rules, tests}
+use Rattle.std.proofs.lemmas.Iterator.{YieldsList-from_slice}
+use Rattle.std.proofs.lemmas.Iterator.Search.{any_from_yields_List}
 use Rattle.sheet.specs.Drafts.{at_par}
+use Rattle.sheet.proofs.Searches.{any_is}
 use Rattle.sheet.proofs.drafts.has_rouble_at_par.Goals as goal
 
-pub returns-then-currency-eq-PAR : goal.returns-then-currency-eq-PAR
-returns-then-currency-eq-PAR c = any_hit at_par c.args.entries.now c.loop-currency.currency-index (record { code = 0; fx = 0 }) (omega arith) (search rules) ∙ c.loop-currency.invariant
-
-pub loop-currency-preserved : goal.loop-currency-preserved
-loop-currency-preserved c = any_skip at_par c.args.entries.now c.loop-currency.currency-index (record { code = 0; fx = 0 }) (omega arith) (search rules) ∙ c.loop-currency.invariant
-
 pub returns : goal.returns
-returns c = any_end at_par c.args.entries.now c.loop-currency.currency-index (omega arith) ∙ c.loop-currency.invariant
+returns c = any_from_yields_List at_par _ _ _ c.any.ensures.ran (YieldsList-from_slice c.args.entries.now cc) (λ x b q k. search (rules, tests)) ∙ any_is at_par c.args.entries.now
