@@ -1,6 +1,4 @@
 pub mod Answers
 pub mod Fronts
 pub mod Refusals
-mod Spelling
-mod Lookups
 mod Books

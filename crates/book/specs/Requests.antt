@@ -1,8 +1,9 @@
 -- What a field asks, in numbers.
 use Rattle.std.specs.Prelude.{◌≡◌, ℕ, Bool, false, cond, ◌||◌, List, take, drop, ◌==◌}
-use Rattle.book.specs.declared.fields.Payment.{Payment}
+use Rattle.book.specs.declared.fields.PaymentBytes.{PaymentBytes}
 use Rattle.book.specs.declared.fields.Kind.{Kind}
 use Rattle.book.specs.declared.fields.Kind.TheVariants.{Currency, PutInForce, Open, PayIn, PayOut, Figures}
+use Rattle.book.specs.declared.payments.Payment.{Payment}
 use Rattle.book.specs.Numbers.{number}
 use Rattle.book.specs.Ranges.{no_portfolio, no_currency, no_fx, no_amount}
 
@@ -36,6 +37,10 @@ out_of_range (pay_in p c x) = no_portfolio p || no_currency c || no_amount x
 out_of_range (pay_out p c x) = no_portfolio p || no_currency c || no_amount x
 out_of_range (figures p) = no_portfolio p
 
+-- a payment in numbers
+abbrev pub numbers : PaymentBytes → Payment
+numbers y = record { portfolio = number y.portfolio.now; currency = number y.currency.now; amount = number y.amount.now }
+
 -- what a field by its kind asks
 abbrev pub asked : Kind → Request
 asked (Currency c x) = enter_currency (number c.now) (number x.now)
@@ -46,7 +51,7 @@ asked (PayOut y) = pay_out (number y.portfolio.now) (number y.currency.now) (num
 asked (Figures p) = figures (number p.now)
 
 -- a payment's parts spell the numbers of its payload
-pub record Parts (y : Payment) (bs : List ℕ) : Type 0 where
+pub record Parts (y : PaymentBytes) (bs : List ℕ) : Type 0 where
   pub portfolio : number y.portfolio.now ≡ part 0 2 bs
   pub currency : number y.currency.now ≡ part 2 2 bs
   pub amount : number y.amount.now ≡ part 4 8 bs

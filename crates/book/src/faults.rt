@@ -1,13 +1,13 @@
 // What is wrong with a field, and its place: its first byte in the book, from 1, or 0 without a book.
 ghost use Rattle.std.specs.Prelude.{◌≡◌};
-ghost use Rattle.book.specs.Faults.{field_number};
+ghost use Rattle.book.specs.Faults.{field_number, fault};
 
 #[derive(Clone, Copy, Debug, PartialEq, Eq)]
 pub enum FieldCause {
-    Ends,
-    UnknownTag,
-    Length,
-    Range,
+    Ends = 1,
+    UnknownTag = 2,
+    Length = 3,
+    Range = 4,
 }
 
 #[derive(Clone, Copy, Debug, PartialEq, Eq)]
@@ -16,15 +16,18 @@ pub struct FieldFault {
     pub place: usize,
 }
 
+impl FieldCause {
+    pub(crate) fn at(self, place: usize) -> FieldFault
+        ensures { result ≡ fault self place }
+    {
+        FieldFault { cause: self, place }
+    }
+}
+
 impl FieldFault {
     pub fn number(&self) -> u8
         ensures { result ≡ field_number self.now }
     {
-        match self.cause {
-            FieldCause::Ends => 1,
-            FieldCause::UnknownTag => 2,
-            FieldCause::Length => 3,
-            FieldCause::Range => 4,
-        }
+        self.cause as u8
     }
 }

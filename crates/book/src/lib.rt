@@ -4,12 +4,16 @@
 mod faults;
 mod fields;
 mod numbers;
+mod payments;
 mod ranges;
 mod reader;
+mod risk_rates;
 mod tags;
 
 pub use faults::{FieldCause, FieldFault};
-pub use fields::{Field, Kind, Payment};
-pub use numbers::{eight, four, two};
-pub use ranges::{check_currency, check_payment, check_portfolio, check_posted, check_stepped};
-pub use reader::{Item, next_item, read_book};
+pub use fields::{Field, Kind, PaymentBytes};
+pub use numbers::{Spelled, number};
+pub use payments::Payment;
+pub use ranges::{check_currency, check_portfolio};
+pub use reader::{Item, MOST_BYTES, next_item, read_book};
+pub use risk_rates::{PostedRate, SteppedRate};

@@ -1,21 +1,56 @@
-// The number that bytes spell, the highest first.
-ghost use Rattle.std.specs.Prelude.{◌≡◌};
+// The number that bytes spell, the highest first; the type of the result says how many bytes there are.
+ghost use Rattle.std.specs.Prelude.{◌≡◌, ℕ, List};
 ghost use Rattle.book.specs.Numbers.{number};
 
-pub fn two(bytes: &[u8; 2]) -> u16
-    ensures { result ≡ number bytes.now }
-{
-    u16::from_be_bytes(*bytes)
+pub trait Spelled: Copy {
+    type Bytes;
+
+    ghost bytes_of: { Self.Bytes → List ℕ };
+
+    ghost value_of: { Self → ℕ };
+
+    fn spelled(bytes: &Self::Bytes) -> Self
+        ensures { value_of result ≡ number (bytes_of bytes.now) };
 }
 
-pub fn four(bytes: &[u8; 4]) -> u32
-    ensures { result ≡ number bytes.now }
-{
-    u32::from_be_bytes(*bytes)
+impl Spelled for u16 {
+    type Bytes = [u8; 2];
+
+    ghost bytes_of = { λ bytes. bytes };
+
+    ghost value_of = { λ n. n };
+
+    fn spelled(bytes: &[u8; 2]) -> u16 {
+        u16::from_be_bytes(*bytes)
+    }
 }
 
-pub fn eight(bytes: &[u8; 8]) -> u64
-    ensures { result ≡ number bytes.now }
+impl Spelled for u32 {
+    type Bytes = [u8; 4];
+
+    ghost bytes_of = { λ bytes. bytes };
+
+    ghost value_of = { λ n. n };
+
+    fn spelled(bytes: &[u8; 4]) -> u32 {
+        u32::from_be_bytes(*bytes)
+    }
+}
+
+impl Spelled for u64 {
+    type Bytes = [u8; 8];
+
+    ghost bytes_of = { λ bytes. bytes };
+
+    ghost value_of = { λ n. n };
+
+    fn spelled(bytes: &[u8; 8]) -> u64 {
+        u64::from_be_bytes(*bytes)
+    }
+}
+
+pub fn number<T: Spelled>(bytes: &T::Bytes) -> T
+    ensures { T.value_of result ≡ number (T.bytes_of bytes.now) }
 {
-    u64::from_be_bytes(*bytes)
+    T::spelled(bytes)
 }

@@ -1,23 +1,24 @@
 // Reads a book field by field.
 ghost use Rattle.std.specs.Prelude.{◌≡◌, map, length, IfOk, if◌then◌else◌, Some, None, MatchOption, nat_eq};
 ghost use Rattle.std.specs.Option.{option_map};
-ghost use Rattle.book.specs.Tags.{payload_length};
+ghost use Rattle.book.specs.Tags.{byte_of, payload_length};
 ghost use Rattle.book.specs.Ranges.{ranged};
 ghost use Rattle.book.specs.Requests.{request, out_of_range, asked, Parts};
-ghost use Rattle.book.specs.Book.{in_range, content, front, fields, content_of, place_of, seen, seen_front};
+ghost use Rattle.book.specs.Book.{content, front, fields, content_of, place_of, seen, seen_front};
 
 use crate::faults::{FieldCause, FieldFault};
-use crate::fields::{Field, Kind, Payment};
-use crate::numbers::{eight, four, two};
-use crate::ranges::{check_currency, check_payment, check_portfolio};
-use crate::tags;
+use crate::fields::{Field, Kind, PaymentBytes};
+use crate::numbers::number;
+use crate::payments::Payment;
+use crate::ranges::{check_currency, check_portfolio};
+use crate::tags::{self, Tag};
 use std::alloc::{AllocError, Global};
 
 // At most so many bytes of a book are read.
-const MOST_BYTES: usize = 65_536;
+pub const MOST_BYTES: usize = 65_536;
 
 // A field of a book, or what is wrong with it, beside its tag.
-#[derive(Clone, Copy)]
+#[derive(Clone, Copy, Debug, PartialEq, Eq)]
 pub struct Item<'a> {
     pub tag: u8,
     pub field: Result<Field<'a>, FieldFault>,
@@ -33,64 +34,49 @@ fn currency<'a>(payload: &'a [u8]) -> Option<Kind<'a>>
 }
 
 // The three parts of a payment.
-fn payment<'a>(payload: &'a [u8]) -> Option<Payment<'a>>
+fn payment<'a>(payload: &'a [u8]) -> Option<PaymentBytes<'a>>
     ensures { length payload.now ≡ 12 → MatchOption result ⊥ (λ y. Parts y payload.now) }
 {
     let (portfolio, rest) = payload.split_first_chunk::<2>()?;
     let (currency, rest) = rest.split_first_chunk::<2>()?;
     let (amount, _) = rest.split_first_chunk::<8>()?;
-    Some(Payment {
+    Some(PaymentBytes {
         portfolio,
         currency,
         amount,
     })
 }
 
-// The field of a known tag, by a payload of its length.
-fn kind_of<'a>(tag: u8, payload: &'a [u8]) -> Option<Kind<'a>>
-    ensures { payload_length tag ≡ Some (length payload.now) → option_map asked result ≡ Some (request tag payload.now) }
+// The field of a tag, by a payload of its length.
+fn kind_of<'a>(tag: Tag, payload: &'a [u8]) -> Option<Kind<'a>>
+    ensures { payload_length (byte_of tag) ≡ Some (length payload.now) → option_map asked result ≡ Some (request (byte_of tag) payload.now) }
 {
     match tag {
-        tags::CURRENCY => currency(payload),
-        tags::PUT_IN_FORCE => Some(Kind::PutInForce),
-        tags::OPEN => Some(Kind::Open {
+        Tag::Currency => currency(payload),
+        Tag::PutInForce => Some(Kind::PutInForce),
+        Tag::Open => Some(Kind::Open {
             portfolio: payload.first_chunk::<2>()?,
         }),
-        tags::PAY_IN => Some(Kind::PayIn(payment(payload)?)),
-        tags::PAY_OUT => Some(Kind::PayOut(payment(payload)?)),
-        tags::FIGURES => Some(Kind::Figures {
+        Tag::PayIn => Some(Kind::PayIn(payment(payload)?)),
+        Tag::PayOut => Some(Kind::PayOut(payment(payload)?)),
+        Tag::Figures => Some(Kind::Figures {
             portfolio: payload.first_chunk::<2>()?,
         }),
-        _ => None,
     }
 }
 
 // Refuses a field with a number outside its range.
-fn check_range(kind: &Kind, place: usize) -> Result<(), FieldFault>
-    ensures { result ≡ ranged (out_of_range (asked kind.now)) place }
+fn check_range(kind: Kind, place: usize) -> Result<(), FieldFault>
+    ensures { result ≡ ranged (out_of_range (asked kind.entry)) place }
 {
     match kind {
-        Kind::Currency { code, fx } => check_currency(two(code), four(fx), place),
+        Kind::Currency { code, fx } => check_currency(number(code), number(fx), place),
         Kind::PutInForce => Ok(()),
         Kind::Open { portfolio } | Kind::Figures { portfolio } => {
-            check_portfolio(two(portfolio), place)
+            check_portfolio(number(portfolio), place)
         }
-        Kind::PayIn(payment) | Kind::PayOut(payment) => check_payment(
-            two(payment.portfolio),
-            two(payment.currency),
-            eight(payment.amount),
-            place,
-        ),
+        Kind::PayIn(bytes) | Kind::PayOut(bytes) => Payment::from(bytes).check(place),
     }
-}
-
-// The field, where its numbers are in their ranges.
-fn in_range<'a>(kind: Kind<'a>, place: usize) -> Result<Field<'a>, FieldFault>
-    ensures content { content_of result ≡ in_range (asked kind.entry) place }
-    ensures place { place_of result ≡ place }
-{
-    check_range(&kind, place)?;
-    Ok(Field { kind, place })
 }
 
 // The field of a tag and a payload.
@@ -98,25 +84,13 @@ fn field_of<'a>(tag: u8, payload: &'a [u8], place: usize) -> Result<Field<'a>, F
     ensures content { content_of result ≡ content tag payload.now place }
     ensures place { place_of result ≡ place }
 {
-    let Some(length) = tags::payload_length(tag) else {
-        return Err(FieldFault {
-            cause: FieldCause::UnknownTag,
-            place,
-        });
-    };
+    let (tag, length) = tags::known(tag).ok_or(FieldCause::UnknownTag.at(place))?;
     if payload.len() != usize::from(length) {
-        return Err(FieldFault {
-            cause: FieldCause::Length,
-            place,
-        });
+        return Err(FieldCause::Length.at(place));
     }
-    let Some(kind) = kind_of(tag, payload) else {
-        return Err(FieldFault {
-            cause: FieldCause::Length,
-            place,
-        });
-    };
-    in_range(kind, place)
+    let kind = kind_of(tag, payload).ok_or(FieldCause::Length.at(place))?;
+    check_range(kind, place)?;
+    Ok(Field { kind, place })
 }
 
 // The field at the front of what is left of a book, and what stands after it; None at the book's end. `place` is the
@@ -124,10 +98,7 @@ fn field_of<'a>(tag: u8, payload: &'a [u8], place: usize) -> Result<Field<'a>, F
 pub fn next_item<'a>(rest: &'a [u8], place: usize) -> Option<(Item<'a>, &'a [u8])>
     ensures { option_map seen_front result ≡ (if nat_eq (length rest.now) 0 then None else Some (front rest.now place)) }
 {
-    let ends = Err(FieldFault {
-        cause: FieldCause::Ends,
-        place,
-    });
+    let ends = Err(FieldCause::Ends.at(place));
     let [tag, high, low, tail @ ..] = rest else {
         let tag = *rest.first()?;
         return Some((Item { tag, field: ends }, &[]));

@@ -1,43 +1,39 @@
 // The tags, each with the length of its payload.
-ghost use Rattle.std.specs.Prelude.{◌≡◌};
-ghost use Rattle.book.specs.Tags.{lookup, payload_length};
+ghost use Rattle.std.specs.Prelude.{◌≡◌, ◌==◌, IfSome};
+ghost use Rattle.std.specs.List.{find};
+ghost use Rattle.std.specs.Option.{option_map};
+ghost use Rattle.book.specs.Tags.{byte_of, payload_length};
 
-pub(crate) const CURRENCY: u8 = 0x01;
-
-pub(crate) const PUT_IN_FORCE: u8 = 0x05;
-
-pub(crate) const OPEN: u8 = 0x10;
-
-pub(crate) const PAY_IN: u8 = 0x11;
-
-pub(crate) const PAY_OUT: u8 = 0x12;
-
-pub(crate) const FIGURES: u8 = 0x18;
-
-const LENGTHS: [(u8, u16); 6] = [
-    (CURRENCY, 6),
-    (PUT_IN_FORCE, 0),
-    (OPEN, 2),
-    (PAY_IN, 12),
-    (PAY_OUT, 12),
-    (FIGURES, 2),
-];
-
-// What stands beside the first key that is the tag.
-fn look_up(table: &[(u8, u16)], tag: u8) -> Option<u16>
-    ensures { result ≡ lookup table.now tag }
-{
-    for (key, length) in table {
-        if *key == tag {
-            return Some(*length);
-        }
-    }
-    None
+#[derive(Clone, Copy, Debug, PartialEq, Eq)]
+pub(crate) enum Tag {
+    Currency = 0x01,
+    PutInForce = 0x05,
+    Open = 0x10,
+    PayIn = 0x11,
+    PayOut = 0x12,
+    Figures = 0x18,
 }
 
-// The length of the payload that goes with a tag; None for an unknown tag.
-pub(crate) fn payload_length(tag: u8) -> Option<u16>
-    ensures { result ≡ payload_length tag }
+const LENGTHS: [(Tag, u16); 6] = [
+    (Tag::Currency, 6),
+    (Tag::PutInForce, 0),
+    (Tag::Open, 2),
+    (Tag::PayIn, 12),
+    (Tag::PayOut, 12),
+    (Tag::Figures, 2),
+];
+
+// The first row of a table whose tag is the byte.
+fn find(table: &[(Tag, u16)], byte: u8) -> Option<(Tag, u16)>
+    ensures { result ≡ find (λ row. byte_of row.0 == byte) table.now }
 {
-    look_up(&LENGTHS, tag)
+    table.iter().copied().find(|(tag, _)| *tag as u8 == byte)
+}
+
+// The tag that a byte is, with the length of its payload; None for an unknown tag.
+pub(crate) fn known(byte: u8) -> Option<(Tag, u16)>
+    ensures tag { IfSome result (λ row. byte_of row.0 ≡ byte) }
+    ensures length { option_map (λ row. row.1) result ≡ payload_length byte }
+{
+    find(&LENGTHS, byte)
 }
