@@ -1,7 +1,15 @@
 -- Sums over the currencies of a sheet, with the cash by place and by code.
-use Rattle.std.proofs.Common.{◌≡◌, ℕ, zero, suc, ◌+◌, ◌<◌, ◌≤◌, false, cond, eqb, List, [], ◌∷◌, length, get_or, take, ℤ, pos, ◌+ℤ◌, sym, refl, ap, ◌∙◌, arith}
+use Rattle.std.proofs.Common.{◌≡◌, ℕ, zero, suc, ◌+◌, ◌<◌, ◌≤◌, false, cond, eqb, List, [], ◌∷◌, ◌++◌, Bor, Iter, Option, Some, None, length, get_or, take, ℤ, pos, ◌+ℤ◌, length-append, sym, refl, ap, ◌∙◌, ap₂, arith}
 use borrow.Author.Differences.{ints}
 use Rattle.std.specs.List.{AllByRecursion}
+use Rattle.std.specs.declared.iter.Zip.{Zip}
+use Rattle.std.specs.Iterator.{Yields}
+use Rattle.std.specs.Iterator.Adapters.{zip_first, zip_second}
+use Rattle.std.specs.Slice.Iter.{iter_rest}
+use Rattle.std.proofs.iter.Yields.{fronts}
+use Rattle.std.proofs.lemmas.Iterator.{zips}
+use Rattle.std.proofs.lemmas.List.{take_all}
+use Rattle.std.proofs.lemmas.Slice.Zip.{zip_turn, zip_end}
 use Rattle.std.proofs.lemmas.Bool.{cond-true, cond-false, eq-eqb, ne_eqb, eqb-false}
 use Rattle.margin.specs.declared.Currency.{Currency}
 use Rattle.margin.specs.Numbers.{total}
@@ -24,6 +32,21 @@ module _ (f : Currency → ℤ → ℤ) where
   by_place_more (c ∷ cs) (z ∷ zs) (suc i) d h k =
       let e : suc i + 1 ≡ suc (i + 1) = omega arith in
       ap (λ (n : ℕ). by_place f (take n (c ∷ cs)) (z ∷ zs)) e ∙ omega (arith, ints, by_place_more cs zs i d (omega arith) (omega arith))
+
+  -- a turn of a loop over currencies and amounts side by side, and its end
+  module _ (cs : List Currency) (zs : List ℤ) (xs : List (Bor Currency × Bor ℤ)) (s t u : Zip (Iter Currency) (Iter ℤ)) (r : Option (Bor Currency × Bor ℤ)) (first : iter_rest (zip_first s) ≡ cs) (second : iter_rest (zip_second s) ≡ zs) (y : Yields (zips fronts fronts) s xs t) (step : zips fronts fronts t r u) where
+    pub by_place_turn : (p : Bor Currency × Bor ℤ) → r ≡ Some p →
+        (by_place f (take (length (xs ++ p ∷ [])) cs) zs ≡ by_place f (take (length xs) cs) zs +ℤ f p.0.now p.1.now) × (length xs < length zs)
+    by_place_turn p is =
+        let at = zip_turn cs zs xs s t u r first second y p is step in (
+          ap (λ n. by_place f (take n cs) zs) (length-append xs (p ∷ []))
+              ∙ by_place_more cs zs (length xs) p.0.now at.0 at.1
+              ∙ ap₂ (λ c z. by_place f (take (length xs) cs) zs +ℤ f c z) (sym (at.2 p.0.now)) (sym (at.3 (pos 0))),
+          at.1,
+        )
+
+    pub by_place_end : r ≡ None → length cs ≤ length zs → by_place f (take (length xs) cs) zs ≡ by_place f cs zs
+    by_place_end is room = ap (λ ds. by_place f ds zs) (take_all (length xs) cs (omega (arith, zip_end cs zs xs s t u r first second y is step)))
 
 -- a currency found at another code is not found at this one
 apart_from : (f : Currency → ℤ → ℤ) (k : ℕ) (z : ℤ) (g : ℕ → ℤ) (cs : List Currency) → AllByRecursion (λ c. eqb k c.code ≡ false) cs →

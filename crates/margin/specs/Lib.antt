@@ -9,3 +9,4 @@ pub mod Facts
 pub mod Cash
 pub mod Keys
 pub mod Same
+pub mod Texts

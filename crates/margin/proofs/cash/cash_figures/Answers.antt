@@ -1,31 +1,40 @@
-use Rattle.std.proofs.Common.{◌≡◌, List, get_or, take, ℤ, pos, ◌*ℤ◌, ap, ◌∙◌, arith, w64, SFits, rules}
+use Rattle.std.proofs.Common.{◌≡◌, [], ◌∷◌, pos, ◌*ℤ◌, ap, ◌∙◌, length-append, arith, w64, SFits, rules, ℤ}
 use borrow.Author.Differences.{ints}
-use Rattle.std.proofs.lemmas.List.{take_all}
+use Rattle.std.specs.Iterator.Adapters.{zip_first, zip_second}
+use Rattle.std.specs.Slice.Iter.{iter_rest}
 use Rattle.std.proofs.lemmas.Int.{to_z-of_z}
-use Rattle.margin.specs.declared.Currency.{Currency}
 use Rattle.margin.specs.Numbers.{down}
-use Rattle.margin.proofs.Places.{by_place, by_place_more}
+use Rattle.margin.proofs.Places.{by_place_turn, by_place_end}
 use Rattle.margin.proofs.CashFigures.{valued, at_risk, cash_figures_are}
 use Rattle.margin.proofs.cash.cash_figures.Goals as goal
 
-pub loop-i-preserved : goal.loop-i-preserved
-loop-i-preserved c =
-    let d : Currency = record { code = 0; fx = 0 } in
-    let i = c.loop-i.i in
-    let x : Currency = get_or c.args.currencies.now c.loop-i.i (record { code = 0; fx = 0 }) in
-    let fz : SFits w64 (get_or c.args.cash.now c.loop-i.i (pos 0)) = search rules in
+pub overflow_add-first : goal.overflow_add-first
+overflow_add-first c =
+    let first : iter_rest (zip_first c.into_iter-currency-iterator.result) ≡ c.args.currencies.now = search rules in
+    let second : iter_rest (zip_second c.into_iter-currency-iterator.result) ≡ c.args.cash.now = search rules in
+    let turn = by_place_turn valued c.args.currencies.now c.args.cash.now c.loop-currency.yielded c.into_iter-currency-iterator.result c.loop-currency.currency-iterator c.next.new.self c.next.result first second c.loop-currency.yielded_by c.next.ensures.steps (c.in-Some.currency, c.in-Some.cash) c.in-Some.is in
+    omega (arith, ints)
+
+pub loop-currency-preserved : goal.loop-currency-preserved
+loop-currency-preserved c =
+    let first : iter_rest (zip_first c.into_iter-currency-iterator.result) ≡ c.args.currencies.now = search rules in
+    let second : iter_rest (zip_second c.into_iter-currency-iterator.result) ≡ c.args.cash.now = search rules in
+    let x = c.in-Some.currency.now in
+    let fz : SFits w64 c.in-Some.cash.now = search rules in
     let fs : SFits w64 c.shocked.result = search rules in
     let e = simp to_z-of_z at c.in_roubles-value.ensures.is in
     let s = simp to_z-of_z at c.shocked.ensures in
     let f = (simp to_z-of_z at c.in_roubles-first.ensures.is) ∙ ap (λ (z : ℤ). down (z *ℤ pos x.fx) 10000) s in
-    let v = by_place_more valued c.args.currencies.now c.args.cash.now i d (omega arith) (omega arith) in
-    let n = by_place_more at_risk c.args.currencies.now c.args.cash.now i d (omega arith) (omega arith) in
-    (omega (arith, ints, v, e), omega (arith, ints, n, f), omega (arith, ints), omega (arith, ints))
+    let v = by_place_turn valued c.args.currencies.now c.args.cash.now c.loop-currency.yielded c.into_iter-currency-iterator.result c.loop-currency.currency-iterator c.next.new.self c.next.result first second c.loop-currency.yielded_by c.next.ensures.steps (c.in-Some.currency, c.in-Some.cash) c.in-Some.is in
+    let n = by_place_turn at_risk c.args.currencies.now c.args.cash.now c.loop-currency.yielded c.into_iter-currency-iterator.result c.loop-currency.currency-iterator c.next.new.self c.next.result first second c.loop-currency.yielded_by c.next.ensures.steps (c.in-Some.currency, c.in-Some.cash) c.in-Some.is in
+    let k = length-append c.loop-currency.yielded ((c.in-Some.currency, c.in-Some.cash) ∷ []) in
+    (omega (arith, ints, v, e), omega (arith, ints, n, f), omega (arith, ints, v, k), omega (arith, ints, n, k))
 
 pub returns : goal.returns
-returns c l a =
-    let all : take c.loop-i.i c.args.currencies.now ≡ c.args.currencies.now = take_all _ _ (omega arith) in
+returns c = λ l a.
+    let first : iter_rest (zip_first c.into_iter-currency-iterator.result) ≡ c.args.currencies.now = search rules in
+    let second : iter_rest (zip_second c.into_iter-currency-iterator.result) ≡ c.args.cash.now = search rules in
     c.figures_from.ensures
     ∙ cash_figures_are c.args.currencies.now c.args.cash.now a (omega arith) _ _
-    (c.loop-i.invariant.0 ∙ ap (λ (cs : List Currency). by_place valued cs c.args.cash.now) all)
-    (c.loop-i.invariant.1 ∙ ap (λ (cs : List Currency). by_place at_risk cs c.args.cash.now) all)
+    (c.loop-currency.invariant.0 ∙ by_place_end valued c.args.currencies.now c.args.cash.now c.loop-currency.yielded c.into_iter-currency-iterator.result c.loop-currency.currency-iterator c.next.new.self c.next.result first second c.loop-currency.yielded_by c.next.ensures.steps c.in-None.is (omega arith))
+    (c.loop-currency.invariant.1 ∙ by_place_end at_risk c.args.currencies.now c.args.cash.now c.loop-currency.yielded c.into_iter-currency-iterator.result c.loop-currency.currency-iterator c.next.new.self c.next.result first second c.loop-currency.yielded_by c.next.ensures.steps c.in-None.is (omega arith))

@@ -1,7 +1,7 @@
 use Rattle.std.proofs.Common.{◌-ℤ◌, SFits, rules}
 use mir.Syntax.{w128}
 use Rattle.std.proofs.lemmas.Int.{to_z-of_z}
-use Rattle.margin.proofs.cash.figures_from.Goals as goal
+use Rattle.margin.proofs.ratios.figures_from.Goals as goal
 
 pub returns : goal.returns
 returns c =
