@@ -1,6 +1,6 @@
 // One line, and one currency.
 ghost use Rattle.std.specs.Prelude.{◌≡◌, ◌*◌, ◌^◌, ◌≤◌, ◌&&◌, length, pos, ◌*ℤ◌, if◌then◌else◌, unsigned_abs};
-ghost use Rattle.margin.specs.Numbers.{down, below};
+ghost use Rattle.margin.specs.Numbers.{below};
 ghost use Rattle.margin.specs.Sheets.{off_list};
 ghost use Rattle.margin.specs.Holdings as holdings;
 ghost use Rattle.margin.specs.Fillings as fillings;
@@ -8,11 +8,9 @@ ghost use Rattle.valuation.specs.Values.{any_sheet, one_line};
 
 use crate::line::Line;
 use crate::orders::part_of;
-use crate::pieces::{Stake, least_value, rounded_down};
-use margin::{Instrument, Kind, Order};
+use crate::pieces::{Stake, least_value};
+use margin::{Instrument, Kind, Order, ROUBLE};
 use rates::RateSource;
-
-const ROUBLE: u16 = 643;
 
 fn is_off_list(kind: Kind) -> bool
     ensures { result ≡ off_list kind }
@@ -98,13 +96,4 @@ pub(crate) fn net(instrument: Instrument, line: Line) -> i128
     ensures small { unsigned_abs result ≤ 10 ^ 24 }
 {
     i128::from(counted(instrument.kind, line.planned)) * i128::from(instrument.price)
-}
-
-// An amount in roubles, by an exchange rate in ten-thousandths of a rouble, rounded down.
-pub(crate) fn in_roubles(amount: i128, fx: u32) -> i128
-    requires { unsigned_abs amount ≤ 3 * 10 ^ 28 }
-    ensures is { result ≡ down (amount *ℤ pos fx) 10000 }
-    ensures small { unsigned_abs result ≤ 2 * 10 ^ 34 }
-{
-    rounded_down(amount * i128::from(fx))
 }

@@ -6,7 +6,7 @@ ghost use Rattle.margin.specs.Numbers.{down, least};
 ghost use Rattle.valuation.specs.Raw.{raw, raw_of, lower, lowest, nought, with_nought, floored, Small, reach};
 
 use crate::orders::losses;
-use margin::{Order, Piece};
+use margin::{Order, Piece, rounded_down};
 use rates::RateSource;
 
 const NOUGHT: Piece = Piece {
@@ -100,13 +100,6 @@ fn least_raw<S: RateSource>(source: &S, stake: Stake, off: bool, orders: &[Order
         best = lower_of(best, piece_at(source, stake, i + 1, orders));
     }
     best
-}
-
-// Ten-thousandths as whole numbers, rounded down.
-pub(crate) fn rounded_down(z: i128) -> i128
-    ensures { result ≡ down z 10000 }
-{
-    z.div_euclid(10_000)
 }
 
 fn floored(best: Option<i128>) -> i128

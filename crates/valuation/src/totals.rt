@@ -12,9 +12,9 @@ ghost use Rattle.valuation.specs.Values.{line_value, shock_in, value_in};
 ghost use Rattle.valuation.specs.Holdings.{sheet_of, holding_of, equity_in, roubles_in, figure_in};
 
 use crate::line::Line;
-use crate::lines::{in_roubles, low, net, shocked, worth};
+use crate::lines::{low, net, shocked, worth};
 use keyed::find;
-use margin::{Currency, Figures, Instrument, Order, figures_from};
+use margin::{Currency, Figures, Instrument, Order, figures_from, wide_in_roubles};
 use rates::RateSource;
 
 // What a line counts for: its price, its worth, or the least that it can come to.
@@ -140,7 +140,7 @@ fn currency_value<S: RateSource>(
         currency.code,
         cash,
     );
-    in_roubles(shock(figure, source, currency.code, whole), currency.fx)
+    wide_in_roubles(shock(figure, source, currency.code, whole), currency.fx)
 }
 
 // A figure of the portfolio: its currencies, each with the cash at its place.
