@@ -1,4 +1,5 @@
 pub mod Rows
+pub mod Places
 pub mod Tables
 pub mod Laws
 pub mod Reordered

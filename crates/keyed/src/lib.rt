@@ -3,9 +3,11 @@
 
 pub mod keys;
 pub mod laws;
+pub mod places;
 pub mod slices;
 pub mod table;
 
 pub use keys::{Key, Keyed};
+pub use places::Places;
 pub use slices::{add, find, range, remove};
 pub use table::{Refusal, Table};

@@ -1,16 +1,16 @@
-// A table of records on places that are all got at once. Of the places the first `limit` serve, and of these the first
-// `used` hold records.
-ghost use Rattle.std.specs.Prelude.{◌≤◌, vec_len};
+// A table of records whose keys rise.
+ghost use Rattle.keyed.specs.Places.{records};
+ghost use Rattle.keyed.specs.Rows.{Rising};
+
+use crate::keys::Keyed;
+use crate::places::Places;
 
 pub(crate) mod methods;
 
 #[derive(Drop)]
-pub struct Table<R> {
-    pub(crate) places: Vec<R>,
-    pub(crate) limit: usize,
-    pub(crate) used: usize,
-    ghost within: { used ≤ limit },
-    ghost fits: { limit ≤ vec_len places },
+pub struct Table<R: Keyed> {
+    pub(crate) rows: Places<R>,
+    pub ghost rising: { Rising R.Keyed.key (records rows) },
 }
 
 // Why a table did not take a record.

@@ -1,7 +1,7 @@
 // Tables at two record types: filled, emptied and filled again.
 #![tactic(auto)]
 
-ghost use Rattle.std.specs.Prelude.{◌+◌, ◌*◌, ◌^◌};
+ghost use Rattle.std.specs.Prelude.{◌≡◌, ◌+◌, ◌*◌, ◌^◌};
 
 use keyed::Keyed;
 
@@ -43,10 +43,12 @@ impl Keyed for Line {
 #[cfg(test)]
 mod tests {
     use super::*;
-    use keyed::{Refusal, Table};
+    use keyed::{Places, Refusal, Table};
     use std::test::Fail;
 
-    fn account(number: u16, cash: u32) -> Account {
+    fn account(number: u16, cash: u32) -> Account
+        ensures { result.number ≡ number }
+    {
         Account { number, cash }
     }
 
@@ -89,7 +91,7 @@ mod tests {
         Ok(())
     }
 
-    // The lines of one portfolio stand together; then two others come in the place of all.
+    // The lines of one portfolio stand together.
     #[test]
     fn parts(rt: HostRuntime) -> Result<(), Fail> {
         let places = vec![in rt.alloc(); line(0, 0, 0); 3]?;
@@ -102,14 +104,44 @@ mod tests {
         assert_eq!(rt; part[0], line(2, 5, 1));
         assert_eq!(rt; part[1], line(2, 7, 1));
         assert!(rt; table.between((3, 2), (2, 9)).is_empty());
-        table.load(&[line(4, 0, 0), line(3, 0, 0)]);
-        assert!(rt; !table.is_full());
-        assert_eq!(rt; table.append(line(1, 0, 0)), Ok(()));
-        assert_eq!(rt; table.append(line(5, 0, 0)), Err(Refusal::Full));
-        assert!(rt; table.is_full());
-        let rows = table.rows();
+        Ok(())
+    }
+
+    // Of three places, each with a record, two others come in the place of all; then one more.
+    #[test]
+    fn places(rt: HostRuntime) -> Result<(), Fail> {
+        let mut lines = Places::new(vec![in rt.alloc(); line(0, 0, 0); 3]?, 3);
+        assert_eq!(rt; lines.append(line(2, 5, 1)), Ok(()));
+        assert_eq!(rt; lines.append(line(2, 7, 1)), Ok(()));
+        assert_eq!(rt; lines.append(line(3, 1, 1)), Ok(()));
+        lines.load(&[line(4, 0, 0), line(3, 0, 0)]);
+        assert!(rt; !lines.is_full());
+        assert_eq!(rt; lines.append(line(1, 0, 0)), Ok(()));
+        assert_eq!(rt; lines.append(line(5, 0, 0)), Err(Refusal::Full));
+        assert!(rt; lines.is_full());
+        let rows = lines.rows();
         assert!(rt; rows.len() == 3);
         assert_eq!(rt; rows[2], line(1, 0, 0));
+        assert_eq!(rt; lines.row(0), line(4, 0, 0));
+        lines.clear();
+        assert_eq!(rt; lines.len(), 0);
+        Ok(())
+    }
+
+    // A record put at a key, another in its place, and none; then the table is cleared.
+    #[test]
+    fn puts(rt: HostRuntime) -> Result<(), Fail> {
+        let mut table = Table::new(vec![in rt.alloc(); account(0, 0); 1]?, 1);
+        assert!(rt; !table.is_full());
+        table.set(7, Some(account(7, 70)));
+        assert!(rt; table.is_full());
+        table.set(7, Some(account(7, 71)));
+        assert_eq!(rt; table.row(0), account(7, 71));
+        table.set(7, None);
+        assert_eq!(rt; table.get(7), None);
+        assert_eq!(rt; table.insert(account(8, 80)), Ok(()));
+        table.clear();
+        assert_eq!(rt; table.len(), 0);
         Ok(())
     }
 

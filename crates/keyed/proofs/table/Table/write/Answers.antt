@@ -1,15 +1,19 @@
-use Rattle.std.proofs.Common.{◌<◌, Some, vec_items, refl, ◌∙◌, arith}
-use lib.Seq.{take-set-lt}
+use Rattle.std.proofs.Common.{Some, refl, ◌∙◌}
+use Rattle.keyed.proofs.Holdings.{rise_put, standing_is, sets}
 use Rattle.keyed.proofs.Puts.{replaced_is}
-use Rattle.keyed.proofs.Tables.{count, standing_is, sets}
 use Rattle.keyed.proofs.table.Table.write.Goals as goal
+
+pub invariant_of-self : goal.invariant_of-self
+invariant_of-self g c =
+    let key = g.R.Keyed.key in
+    let up = c.args.self.now.rising in
+    record { rising = rise_put key _ _ _ (Some c.args.row) up refl (c.write.ensures.records ∙ replaced_is key _ _ _ up c.requires) }
 
 pub returns : goal.returns
 returns g c =
-    let t = c.args.self.now in
     let key = g.R.Keyed.key in
-    let l : c.args.at < t.used = omega (arith, count t, c.requires.stands.within) in
+    let up = c.args.self.now.rising in
     record {
-      was = standing_is key t _ _ _ c.requires.sound c.requires.stands c.row-old.ensures;
-      sets = sets key t _ _ (Some c.args.row) c.requires.sound refl (take-set-lt t.used (vec_items t.places) c.args.at c.args.row l ∙ replaced_is key _ _ _ c.requires.sound c.requires.stands) refl;
+      was = standing_is key _ _ _ _ up c.requires c.row-old.ensures;
+      sets = sets key c.args.self.now _ _ (Some c.args.row) up refl (c.write.ensures.records ∙ replaced_is key _ _ _ up c.requires) c.write.ensures.serving;
     }
