@@ -1,7 +1,8 @@
 -- The fields of a book do not depend on how many are allowed for, once that is the book's length.
-use Rattle.std.proofs.Common.{◌≡◌, ℕ, zero, suc, ◌+◌, ◌-◌, ◌<◌, ◌≤◌, Bool, true, false, cond, eqb, List, [], ◌∷◌, ◌++◌, map, length, drop, Some, None, sym, refl, ap, ◌∙◌, append_assoc, arith, length-drop}
+use Rattle.std.proofs.Common.{◌≡◌, ℕ, zero, suc, ◌+◌, ◌-◌, ◌<◌, ◌≤◌, cond, eqb, List, [], ◌∷◌, ◌++◌, map, length, drop, Some, None, sym, refl, ap, ◌∙◌, append_assoc, arith, length-drop}
 use Rattle.std.proofs.lemmas.List.{map_push}
-use Rattle.std.proofs.lemmas.Bool.{eq-eqb, ne_eqb, cond-true, cond-false, cond_both, ltb-false, eqb-false}
+use Rattle.std.proofs.lemmas.Bool.{eq-eqb, ne_eqb, cond-true, cond-false, cond_both, ltb-false}
+use Rattle.std.proofs.lemmas.Bool.Decides.{nat_tests}
 use Rattle.book.specs.declared.reader.Item.{Item}
 use Rattle.book.specs.Book.{Entry, Front, cut_off, stated, front, fields_from, fields_of, seen}
 
@@ -24,33 +25,16 @@ enough (suc n) (suc m) bs p h k =
     (enough n m (front bs p).rest (p + (length bs - length (front bs p).rest)) (omega arith) (omega arith))
 
 -- the fields of a book that is not at its end
-step_from : (n : ℕ) (bs : List ℕ) (p : ℕ) → length bs ≡ suc n → fields_from (suc n) bs p ≡ (front bs p).entry ∷ fields_of (front bs p).rest (p + (length bs - length (front bs p).rest))
-step_from n bs p e =
-    let l = shorter bs p in
-    cond-false _ _ _ (ne_eqb (length bs) 0 (λ z. omega arith))
-    ∙ ap (λ (es : List Entry). (front bs p).entry ∷ es) (enough n (length (front bs p).rest) (front bs p).rest (p + (length bs - length (front bs p).rest)) (omega arith) (omega arith))
-
-step_at : (n : ℕ) (bs : List ℕ) (p : ℕ) → length bs ≡ n → 0 < n → fields_of bs p ≡ (front bs p).entry ∷ fields_of (front bs p).rest (p + (length bs - length (front bs p).rest))
-step_at zero bs p e h = absurd (omega arith)
-step_at (suc n) bs p e h = ap (λ (k : ℕ). fields_from k bs p) e ∙ step_from n bs p e
-
 book_step : (bs : List ℕ) (p : ℕ) → 0 < length bs → fields_of bs p ≡ (front bs p).entry ∷ fields_of (front bs p).rest (p + (length bs - length (front bs p).rest))
-book_step bs p h = step_at (length bs) bs p refl h
+book_step bs p h =
+    let l = shorter bs p in
+    enough (length bs) (suc (length bs)) bs p (omega arith) (omega arith)
+    ∙ cond-false _ _ _ (ne_eqb (length bs) 0 (λ z. omega arith))
+    ∙ ap (λ (es : List Entry). (front bs p).entry ∷ es) (enough (length bs) (length (front bs p).rest) (front bs p).rest _ (omega arith) (omega arith))
 
 -- what the reader answers, where it answers a field
-pos_of : (n : ℕ) → (n ≡ 0 → ⊥) → 0 < n
-pos_of zero h = absurd (h refl)
-pos_of (suc n) h = omega arith
-
-some_front : (b : Bool) (x y : Front) → Some x ≡ cond b None (Some y) → (b ≡ false) × (x ≡ y)
-some_front true x y e = let z : ◌≡◌ {A = ℕ} 0 1 = cc in absurd (omega arith)
-some_front false x y e = (refl, cc)
-
-pub told : (bs : List ℕ) (p : ℕ) (x : Front) → Some x ≡ cond (eqb (length bs) 0) None (Some (front bs p)) → (0 < length bs) × (x ≡ front bs p)
-told bs p x e =
-    let h = some_front (eqb (length bs) 0) x (front bs p) e in
-    let n = eqb-false (length bs) 0 h.0 in
-    (pos_of (length bs) n, h.1)
+pub told : (bs : List ℕ) (p : ℕ) (x : Front) → Some x ≡ cond (eqb (length bs) 0) None (Some (front bs p)) → (length x.rest < length bs) × (x ≡ front bs p)
+told bs p x e = grind (arith, nat_tests, shorter bs p)
 
 -- one turn of the loop
 pub turn : (out new : List Item) (i : Item) (bs rest : List ℕ) (p : ℕ) (all : List Entry) → 0 < length bs → record { entry = seen i; rest = rest } ≡ front bs p → new ≡ out ++ i ∷ [] →

@@ -38,6 +38,13 @@ stated bs = slice_index bs 1 * 256 + slice_index bs 2
 abbrev pub cut_off : List ℕ → Bool
 cut_off bs = nat_lt (length bs) (3 + cond (nat_lt (length bs) 3) 0 (stated bs))
 
+-- the payload of a field, and the bytes after it
+abbrev pub payload : List ℕ → List ℕ
+payload bs = take (stated bs) (drop 3 bs)
+
+abbrev pub after : List ℕ → List ℕ
+after bs = drop (stated bs) (drop 3 bs)
+
 -- the field at the front of a book that begins at the place p, and the bytes after it; after refusal 1 nothing more is read
 pub record Front : Type 0 where
   pub entry : Entry
@@ -47,7 +54,7 @@ abbrev pub front : List ℕ → ℕ → Front
 front bs p =
     cond (cut_off bs)
     (record { entry = record { tag = tag bs; place = p; content = Err (fault Ends p) }; rest = [] })
-    (record { entry = record { tag = tag bs; place = p; content = content (tag bs) (take (stated bs) (drop 3 bs)) p }; rest = drop (stated bs) (drop 3 bs) })
+    (record { entry = record { tag = tag bs; place = p; content = content (tag bs) (payload bs) p }; rest = after bs })
 
 -- at most n fields from the place p on
 abbrev pub fields_from : ℕ → List ℕ → ℕ → List Entry
@@ -64,6 +71,9 @@ unfoldable pub fields : List ℕ → List Entry
 fields bs = fields_of (take 65536 bs) 1
 
 -- ---- what the reader hands on, with its references read
+abbrev pub parts : Bor (List ℕ) × Bor (List ℕ) → List ℕ × List ℕ
+parts x = (x.0.now, x.1.now)
+
 abbrev pub content_of : Result Field FieldFault → Result Request FieldFault
 content_of (Ok f) = Ok (asked f.kind)
 content_of (Err f) = Err f

@@ -6,7 +6,7 @@ ghost use Rattle.book.specs.Requests.{numbers};
 use crate::faults::FieldFault;
 use crate::fields::PaymentBytes;
 use crate::numbers::number;
-use crate::ranges::{check_portfolio, not_a_currency, not_an_amount, ranged};
+use crate::ranges::{LAST_CURRENCY, MOST_AMOUNT, check_portfolio, ranged};
 
 // Its amount is in hundredths.
 #[derive(Clone, Copy, Debug, PartialEq, Eq)]
@@ -22,7 +22,8 @@ impl Payment {
     {
         check_portfolio(self.portfolio, place)?;
         ranged(
-            not_a_currency(self.currency) || not_an_amount(self.amount),
+            !(1..=LAST_CURRENCY).contains(&self.currency)
+                || !(1..=MOST_AMOUNT).contains(&self.amount),
             place,
         )
     }

@@ -1,14 +1,16 @@
 // The ranges of the numbers that a field or a call brings. A number outside its range is the field's fault 4.
 ghost use Rattle.std.specs.Prelude.{◌≡◌, ◌||◌};
-ghost use Rattle.book.specs.Ranges.{no_portfolio, no_currency, no_fx, no_amount, no_rated_code, no_risk_rate, ranged};
+ghost use Rattle.book.specs.Ranges.{no_portfolio, no_currency, no_fx, no_rated_code, no_risk_rate, ranged};
 
 use crate::faults::{FieldCause, FieldFault};
 
-const LAST_CURRENCY: u16 = 999;
+pub(crate) const LAST_CURRENCY: u16 = 999;
 
+// In ten-thousandths of a rouble.
 const MOST_FX: u32 = 10_000_000;
 
-const MOST_AMOUNT: u64 = 200_000_000_000;
+// In hundredths.
+pub(crate) const MOST_AMOUNT: u64 = 200_000_000_000;
 
 const ROUBLE: u16 = 643;
 
@@ -25,24 +27,6 @@ pub(crate) fn ranged(outside: bool, place: usize) -> Result<(), FieldFault>
     }
 }
 
-pub(crate) fn not_a_currency(code: u16) -> bool
-    ensures { result ≡ no_currency code }
-{
-    !(1..=LAST_CURRENCY).contains(&code)
-}
-
-fn not_an_fx(fx: u32) -> bool
-    ensures { result ≡ no_fx fx }
-{
-    !(1..=MOST_FX).contains(&fx)
-}
-
-pub(crate) fn not_an_amount(amount: u64) -> bool
-    ensures { result ≡ no_amount amount }
-{
-    !(1..=MOST_AMOUNT).contains(&amount)
-}
-
 // No rate is entered for code 0 or for the rouble.
 pub(crate) fn not_a_rated_code(code: u16) -> bool
     ensures { result ≡ no_rated_code code }
@@ -56,11 +40,14 @@ pub(crate) fn not_a_risk_rate(rate: u16) -> bool
     rate > MOST_RISK
 }
 
-// The numbers of a currency entry: its code, and its exchange rate in ten-thousandths of a rouble.
+// The numbers of a currency entry: its code and its exchange rate.
 pub fn check_currency(code: u16, fx: u32, place: usize) -> Result<(), FieldFault>
     ensures { result ≡ ranged (no_currency code || no_fx fx) place }
 {
-    ranged(not_a_currency(code) || not_an_fx(fx), place)
+    ranged(
+        !(1..=LAST_CURRENCY).contains(&code) || !(1..=MOST_FX).contains(&fx),
+        place,
+    )
 }
 
 pub fn check_portfolio(portfolio: u16, place: usize) -> Result<(), FieldFault>

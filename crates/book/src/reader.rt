@@ -4,7 +4,7 @@ ghost use Rattle.std.specs.Option.{option_map};
 ghost use Rattle.book.specs.Tags.{byte_of, payload_length};
 ghost use Rattle.book.specs.Ranges.{ranged};
 ghost use Rattle.book.specs.Requests.{request, out_of_range, asked, Parts};
-ghost use Rattle.book.specs.Book.{content, front, fields, content_of, place_of, seen, seen_front};
+ghost use Rattle.book.specs.Book.{content, parts, cut_off, payload, after, front, fields, content_of, place_of, seen, seen_front};
 
 use crate::faults::{FieldCause, FieldFault};
 use crate::fields::{Field, Kind, PaymentBytes};
@@ -25,7 +25,7 @@ pub struct Item<'a> {
 }
 
 // The two parts of a currency entry.
-fn currency<'a>(payload: &'a [u8]) -> Option<Kind<'a>>
+fn currency(payload: &[u8]) -> Option<Kind<'_>>
     ensures { length payload.now ≡ 6 → option_map asked result ≡ Some (request 0x01 payload.now) }
 {
     let (code, rest) = payload.split_first_chunk::<2>()?;
@@ -34,7 +34,7 @@ fn currency<'a>(payload: &'a [u8]) -> Option<Kind<'a>>
 }
 
 // The three parts of a payment.
-fn payment<'a>(payload: &'a [u8]) -> Option<PaymentBytes<'a>>
+fn payment(payload: &[u8]) -> Option<PaymentBytes<'_>>
     ensures { length payload.now ≡ 12 → MatchOption result ⊥ (λ y. Parts y payload.now) }
 {
     let (portfolio, rest) = payload.split_first_chunk::<2>()?;
@@ -48,7 +48,7 @@ fn payment<'a>(payload: &'a [u8]) -> Option<PaymentBytes<'a>>
 }
 
 // The field of a tag, by a payload of its length.
-fn kind_of<'a>(tag: Tag, payload: &'a [u8]) -> Option<Kind<'a>>
+fn kind_of(tag: Tag, payload: &[u8]) -> Option<Kind<'_>>
     ensures { payload_length (byte_of tag) ≡ Some (length payload.now) → option_map asked result ≡ Some (request (byte_of tag) payload.now) }
 {
     match tag {
@@ -80,7 +80,7 @@ fn check_range(kind: Kind, place: usize) -> Result<(), FieldFault>
 }
 
 // The field of a tag and a payload.
-fn field_of<'a>(tag: u8, payload: &'a [u8], place: usize) -> Result<Field<'a>, FieldFault>
+fn field_of(tag: u8, payload: &[u8], place: usize) -> Result<Field<'_>, FieldFault>
     ensures content { content_of result ≡ content tag payload.now place }
     ensures place { place_of result ≡ place }
 {
@@ -93,32 +93,38 @@ fn field_of<'a>(tag: u8, payload: &'a [u8], place: usize) -> Result<Field<'a>, F
     Ok(Field { kind, place })
 }
 
+// The payload of the field at the front of what is left of a book, and what stands after it; None where the book ends
+// inside the field.
+fn split_payload(rest: &[u8]) -> Option<(&[u8], &[u8])>
+    ensures { option_map parts result ≡ (if cut_off rest.now then None else Some (payload rest.now, after rest.now)) }
+{
+    let [_, high, low, tail @ ..] = rest else {
+        return None;
+    };
+    let length = number::<u16>(&[*high, *low]);
+    tail.split_at_checked(usize::from(length))
+}
+
 // The field at the front of what is left of a book, and what stands after it; None at the book's end. `place` is the
 // place of its first byte. After refusal 1 nothing is left.
-pub fn next_item<'a>(rest: &'a [u8], place: usize) -> Option<(Item<'a>, &'a [u8])>
+pub fn next_item(rest: &[u8], place: usize) -> Option<(Item<'_>, &[u8])>
     ensures { option_map seen_front result ≡ (if nat_eq (length rest.now) 0 then None else Some (front rest.now place)) }
 {
-    let ends = Err(FieldCause::Ends.at(place));
-    let [tag, high, low, tail @ ..] = rest else {
-        let tag = *rest.first()?;
-        return Some((Item { tag, field: ends }, &[]));
+    let tag = *rest.first()?;
+    let Some((payload, after)) = split_payload(rest) else {
+        let field = Err(FieldCause::Ends.at(place));
+        return Some((Item { tag, field }, &[]));
     };
-    let tag = *tag;
-    let length = usize::from(*high) * 256 + usize::from(*low);
-    if tail.len() < length {
-        return Some((Item { tag, field: ends }, &[]));
-    }
-    let (payload, after) = tail.split_at(length);
     let field = field_of(tag, payload, place);
     Some((Item { tag, field }, after))
 }
 
 // The fields of a book in their order. Bytes past the first 65,536 are not read.
-pub fn read_book<'a>(heap: Global, book: &'a [u8]) -> Result<Vec<Item<'a>>, AllocError>
+pub fn read_book(heap: Global, book: &[u8]) -> Result<Vec<Item<'_>>, AllocError>
     ensures { IfOk result (λ v. map seen v.items ≡ fields book.now) }
 {
     let mut items = Vec::new(heap);
-    let mut rest = &book[0..book.len().min(MOST_BYTES)];
+    let mut rest = &book[..MOST_BYTES.min(book.len())];
     let mut place = 1;
     while let Some((item, after)) = next_item(rest, place) {
         items.push(item)?;
