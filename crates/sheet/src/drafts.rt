@@ -6,11 +6,9 @@ ghost use Rattle.sheet.specs.Drafts.{InOrder, enters, EnteredIn, has_rouble_at_p
 use crate::faults::{SheetCause, SheetFault};
 use book::check_currency;
 use keyed::{add, find};
-use margin::Currency;
+use margin::{Currency, ROUBLE};
 
 const MOST_CURRENCIES: usize = 8;
-
-const ROUBLE: u16 = 643;
 
 const PAR: u32 = 10_000;
 

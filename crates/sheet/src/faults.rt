@@ -79,10 +79,7 @@ impl SheetFault {
         ensures { result ≡ sheet_at self place }
     {
         match self {
-            SheetFault::Field(fault) => SheetFault::Field(FieldFault {
-                cause: fault.cause,
-                place,
-            }),
+            SheetFault::Field(fault) => SheetFault::Field(FieldFault { place, ..fault }),
             SheetFault::State { cause, .. } => SheetFault::State { cause, place },
         }
     }
