@@ -4,10 +4,8 @@ use Rattle.book.specs.declared.faults.FieldCause.TheVariants.{Range}
 use Rattle.book.specs.declared.faults.FieldFault.{FieldFault}
 use Rattle.book.specs.Checks.{check, first_of}
 use Rattle.book.specs.Faults.{fault}
-use Rattle.keyed.specs.declared.table.Refusal.{Refusal}
-use Rattle.keyed.specs.declared.table.Refusal.TheVariants.{Taken, Full}
 use Rattle.margin.specs.declared.Piece.{Piece}
-use Rattle.sheet.specs.declared.faults.SheetCause.TheVariants.{Entered, Full as Brim}
+use Rattle.sheet.specs.declared.faults.SheetCause.TheVariants.{Entered, Full}
 use Rattle.sheet.specs.declared.faults.SheetFault.{SheetFault}
 use Rattle.sheet.specs.Faults.{out_of_range, refusal}
 
@@ -15,25 +13,25 @@ use Rattle.sheet.specs.Faults.{out_of_range, refusal}
 abbrev pub most_codes : ℕ
 most_codes = 263
 
+-- what the numbers of a rate say: whether one is outside its range, the code, and the code's pieces
+pub record Said : Type 0 where
+  pub outside : Bool
+  pub code : ℕ
+  pub pieces : List Piece
+
 -- the answer: a number outside its range, a code that has pieces already, as many codes as there are places
 abbrev pub enters : Bool → List Piece → ℕ → Result (Unit {0}) SheetFault
 enters outside known count =
     first_of (
     check outside out_of_range
     ∷ check (nat_lt 0 (length known)) (refusal Entered)
-    ∷ check (nat_le most_codes count) (refusal Brim)
+    ∷ check (nat_le most_codes count) (refusal Full)
     ∷ []) tt
 
--- the row of a rate with its numbers, or that one is outside its range
-abbrev pub Checked : {R : Type 0} → Bool → (R → Type 0) → Result R FieldFault → Type 0
-Checked outside P (Ok x) = (outside ≡ false) × P x
-Checked outside P (Err f) = (outside ≡ true) × (f ≡ fault Range 0)
-
--- a table's refusal of the row, as a source's
-abbrev pub answered : Result (Unit {0}) Refusal → Result (Unit {0}) SheetFault
-answered (Ok u) = Ok u
-answered (Err Taken) = Err (refusal Entered)
-answered (Err Full) = Err (refusal Brim)
+-- the row of a rate with its code and its pieces, or that a number is outside its range
+abbrev pub Checked : {R : Type 0} → (R → ℕ) → (R → List Piece) → Said → Result R FieldFault → Type 0
+Checked key pieces r (Ok x) = (r.outside ≡ false) × (key x ≡ r.code) × (pieces x ≡ r.pieces)
+Checked key pieces r (Err f) = (r.outside ≡ true) × (f ≡ fault Range 0)
 
 -- no code has pieces
 pub record Empty (pieces : ℕ → List Piece) (count : ℕ) : Type 0 where

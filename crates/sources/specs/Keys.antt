@@ -1,7 +1,7 @@
 -- What the rows of the two tables are found by.
 use Rattle.std.specs.Prelude.{ℕ}
-use Rattle.sources.specs.declared.rows.PostedRow.{PostedRow}
-use Rattle.sources.specs.declared.rows.SteppedRow.{SteppedRow}
+use Rattle.sources.specs.declared.posted.PostedRow.{PostedRow}
+use Rattle.sources.specs.declared.stepped.SteppedRow.{SteppedRow}
 
 abbrev pub posted_code : PostedRow → ℕ
 posted_code r = r.code

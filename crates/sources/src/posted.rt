@@ -1,16 +1,74 @@
-// The posted table: of each code one rate below and one above.
-ghost use Rattle.std.specs.Prelude.{◌≡◌};
-ghost use Rattle.keyed.specs.Tables.{Sound, room};
-ghost use Rattle.sources.specs.Keys.{posted_code};
+// The posted rates: of each code one rate below and one above.
+ghost use Rattle.std.specs.Prelude.{◌≤◌};
 
-use crate::rows::PostedRow;
-use keyed::Table;
+use crate::pieces::{heavier, lighter};
+use crate::row::RateRow;
+use crate::table::Rates;
+use book::{FieldFault, PostedRate};
+use keyed::Keyed;
+use margin::Piece;
 
-pub(crate) mod source;
+pub type PostedRates = Rates<PostedRow>;
 
-#[derive(Drop)]
-pub struct PostedRates {
-    pub(crate) rows: Table<PostedRow>,
-    ghost codes_rise: { Sound posted_code rows },
-    ghost places: { room rows ≡ 263 },
+// How far below and above 10,000 the two weights of a code lie.
+#[derive(Clone, Copy)]
+pub struct PostedRow {
+    code: u16,
+    plus: u16,
+    minus: u16,
+    ghost low: { plus ≤ 10_000 },
+    ghost high: { minus ≤ 10_000 },
+}
+
+impl Keyed for PostedRow {
+    ghost use Rattle.sources.specs.Keys.{posted_code};
+
+    type Key = u16;
+
+    ghost key = { posted_code };
+
+    fn key(&self) -> u16 {
+        self.code
+    }
+}
+
+impl RateRow for PostedRow {
+    ghost use Rattle.sources.specs.Posted.{of_posted, posted_says};
+    ghost use Rattle.sources.specs.Rules.{posted_many, posted_row_lawful};
+
+    type Rate = PostedRate;
+
+    const MOST: usize = 2;
+
+    ghost MOST = { 2 };
+
+    ghost pieces = { of_posted };
+
+    ghost says = { posted_says };
+
+    ghost many = { posted_many };
+
+    ghost lawful = { posted_row_lawful };
+
+    fn blank() -> PostedRow {
+        PostedRow {
+            code: 0,
+            plus: 0,
+            minus: 0,
+        }
+    }
+
+    fn checked(rate: PostedRate) -> Result<PostedRow, FieldFault> {
+        rate.check(0)?;
+        let PostedRate { code, plus, minus } = rate;
+        Ok(PostedRow { code, plus, minus })
+    }
+
+    fn piece(&self, k: usize) -> Option<Piece> {
+        match k {
+            1 => Some(lighter(self.plus, 0)),
+            2 => Some(heavier(self.minus, 0)),
+            _ => None,
+        }
+    }
 }
