@@ -24,7 +24,7 @@ const LENGTHS: [(Tag, u16); 6] = [
 ];
 
 // The first row of a table whose tag is the byte.
-fn find(table: &[(Tag, u16)], byte: u8) -> Option<(Tag, u16)>
+fn look_up(table: &[(Tag, u16)], byte: u8) -> Option<(Tag, u16)>
     ensures { result ≡ find (λ row. byte_of row.0 == byte) table.now }
 {
     table.iter().copied().find(|(tag, _)| *tag as u8 == byte)
@@ -35,5 +35,5 @@ pub(crate) fn known(byte: u8) -> Option<(Tag, u16)>
     ensures tag { IfSome result (λ row. byte_of row.0 ≡ byte) }
     ensures length { option_map (λ row. row.1) result ≡ payload_length byte }
 {
-    find(&LENGTHS, byte)
+    look_up(&LENGTHS, byte)
 }
