@@ -1,17 +1,12 @@
 // Reads a book field by field.
-ghost use Rattle.std.specs.Prelude.{◌≡◌, map, length, IfOk, if◌then◌else◌, Some, None, MatchOption, nat_eq};
+ghost use Rattle.std.specs.Prelude.{◌≡◌, map, length, IfOk, if◌then◌else◌, Some, None, nat_eq};
 ghost use Rattle.std.specs.Option.{option_map};
-ghost use Rattle.book.specs.Tags.{byte_of, payload_length};
-ghost use Rattle.book.specs.Ranges.{ranged};
-ghost use Rattle.book.specs.Requests.{request, out_of_range, asked, Parts};
 ghost use Rattle.book.specs.Book.{content, parts, cut_off, payload, after, front, fields, content_of, place_of, seen, seen_front};
 
 use crate::faults::{FieldCause, FieldFault};
-use crate::fields::{Field, Kind, PaymentBytes};
+use crate::fields::{Field, Kind};
 use crate::numbers::number;
-use crate::payments::Payment;
-use crate::ranges::{check_currency, check_portfolio};
-use crate::tags::{self, Tag};
+use crate::tags;
 use std::alloc::{AllocError, Global};
 
 // At most so many bytes of a book are read.
@@ -24,61 +19,6 @@ pub struct Item<'a> {
     pub field: Result<Field<'a>, FieldFault>,
 }
 
-// The two parts of a currency entry.
-fn currency(payload: &[u8]) -> Option<Kind<'_>>
-    ensures { length payload.now ≡ 6 → option_map asked result ≡ Some (request 0x01 payload.now) }
-{
-    let (code, rest) = payload.split_first_chunk::<2>()?;
-    let (fx, _) = rest.split_first_chunk::<4>()?;
-    Some(Kind::Currency { code, fx })
-}
-
-// The three parts of a payment.
-fn payment(payload: &[u8]) -> Option<PaymentBytes<'_>>
-    ensures { length payload.now ≡ 12 → MatchOption result ⊥ (λ y. Parts y payload.now) }
-{
-    let (portfolio, rest) = payload.split_first_chunk::<2>()?;
-    let (currency, rest) = rest.split_first_chunk::<2>()?;
-    let (amount, _) = rest.split_first_chunk::<8>()?;
-    Some(PaymentBytes {
-        portfolio,
-        currency,
-        amount,
-    })
-}
-
-// The field of a tag, by a payload of its length.
-fn kind_of(tag: Tag, payload: &[u8]) -> Option<Kind<'_>>
-    ensures { payload_length (byte_of tag) ≡ Some (length payload.now) → option_map asked result ≡ Some (request (byte_of tag) payload.now) }
-{
-    match tag {
-        Tag::Currency => currency(payload),
-        Tag::PutInForce => Some(Kind::PutInForce),
-        Tag::Open => Some(Kind::Open {
-            portfolio: payload.first_chunk::<2>()?,
-        }),
-        Tag::PayIn => Some(Kind::PayIn(payment(payload)?)),
-        Tag::PayOut => Some(Kind::PayOut(payment(payload)?)),
-        Tag::Figures => Some(Kind::Figures {
-            portfolio: payload.first_chunk::<2>()?,
-        }),
-    }
-}
-
-// Refuses a field with a number outside its range.
-fn check_range(kind: Kind, place: usize) -> Result<(), FieldFault>
-    ensures { result ≡ ranged (out_of_range (asked kind.entry)) place }
-{
-    match kind {
-        Kind::Currency { code, fx } => check_currency(number(code), number(fx), place),
-        Kind::PutInForce => Ok(()),
-        Kind::Open { portfolio } | Kind::Figures { portfolio } => {
-            check_portfolio(number(portfolio), place)
-        }
-        Kind::PayIn(bytes) | Kind::PayOut(bytes) => Payment::from(bytes).check(place),
-    }
-}
-
 // The field of a tag and a payload.
 fn field_of(tag: u8, payload: &[u8], place: usize) -> Result<Field<'_>, FieldFault>
     ensures content { content_of result ≡ content tag payload.now place }
@@ -88,8 +28,8 @@ fn field_of(tag: u8, payload: &[u8], place: usize) -> Result<Field<'_>, FieldFau
     if payload.len() != usize::from(length) {
         return Err(FieldCause::Length.at(place));
     }
-    let kind = kind_of(tag, payload).ok_or(FieldCause::Length.at(place))?;
-    check_range(kind, place)?;
+    let kind = Kind::of(tag, payload).ok_or(FieldCause::Length.at(place))?;
+    kind.check(place)?;
     Ok(Field { kind, place })
 }
 
