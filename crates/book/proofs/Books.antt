@@ -33,7 +33,7 @@ book_step bs p h =
     ∙ ap (λ (es : List Entry). (front bs p).entry ∷ es) (enough (length bs) (length (front bs p).rest) (front bs p).rest _ (omega arith) (omega arith))
 
 -- what the reader answers, where it answers a field
-pub told : (bs : List ℕ) (p : ℕ) (x : Front) → Some x ≡ cond (eqb (length bs) 0) None (Some (front bs p)) → (length x.rest < length bs) × (x ≡ front bs p)
+pub told : (bs : List ℕ) (p : ℕ) (x : Front) → Some x ≡ cond (eqb (length bs) 0) None (Some (front bs p)) → (x ≡ front bs p) × (length x.rest < length bs)
 told bs p x e = grind (arith, nat_tests, shorter bs p)
 
 -- one turn of the loop

@@ -3,5 +3,5 @@ use Rattle.std.proofs.Common.{◌≡◌, ℕ, Bool, true, false, Ok, refl, arith
 use Rattle.book.specs.Ranges.{ranged}
 
 pub not_refused : (b : Bool) (p : ℕ) (u : Unit {0}) → Ok u ≡ ranged b p → b ≡ false
-not_refused true p u e = let z : ◌≡◌ {A = ℕ} 0 1 = cc in absurd (omega arith)
+not_refused true p u e = grind arith
 not_refused false p u e = refl

@@ -60,6 +60,7 @@ pub fn next_item(rest: &[u8], place: usize) -> Option<(Item<'_>, &[u8])>
 }
 
 // The fields of a book in their order. Bytes past the first 65,536 are not read.
+#[tactic(auto, using(crate::proofs::Books::told))]
 pub fn read_book(heap: Global, book: &[u8]) -> Result<Vec<Item<'_>>, AllocError>
     ensures { IfOk result (λ v. map seen v.items ≡ fields book.now) }
 {
