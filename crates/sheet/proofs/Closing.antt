@@ -1,6 +1,6 @@
 -- The answer to a closing by what the entries are.
-use Rattle.std.proofs.Common.{◌≡◌, ℕ, ◌-◌, min, true, false, List, length, take, Ok, Err, sym, ap, ◌∙◌, subst, arith}
-use Rattle.std.proofs.lemmas.Bool.{cond-true, cond-false}
+use Rattle.std.proofs.Common.{◌≡◌, ℕ, ◌-◌, min, true, false, List, length, take, Ok, Err, sym, ap, subst, arith}
+use Rattle.std.proofs.lemmas.Grind.{common_steps}
 use Rattle.book.proofs.Fronts.{taken}
 use Rattle.keyed.specs.Rows.{Rising}
 use Rattle.margin.specs.declared.Currency.{Currency}
@@ -18,13 +18,10 @@ module _ (d : Draft) (table : List Currency) (n : ℕ) (few : n ≡ min d.curren
   same = ap (λ (cs : List Currency). incomplete (cash_sheet cs)) (taken d.currencies n table (omega arith))
 
   pub refused : (f : SheetFault) → true ≡ incomplete (cash_sheet (take (n - 0) table)) → f ≡ refusal Incomplete → Err (f, d) ≡ closes d table
-  refused f t e = ap (λ (g : SheetFault). Err (g, d)) e ∙ sym (cond-true _ _ _ (sym same ∙ sym t))
-
-  complete : false ≡ incomplete (cash_sheet (take (n - 0) table)) → incomplete (draft_sheet d table) ≡ false
-  complete t = sym same ∙ sym t
+  refused f t e = grind (arith, common_steps, same, t, e)
 
   pub closed : false ≡ incomplete (cash_sheet (take (n - 0) table)) → Ok (record { currencies = n }) ≡ closes d table
-  closed t = ap (λ (k : ℕ). Ok (record { currencies = k })) few ∙ sym (cond-false _ _ _ (complete t))
+  closed t = grind (arith, common_steps, same, t, few)
 
   pub as_closed : false ≡ incomplete (cash_sheet (take (n - 0) table)) → InOrder d table → (n ≡ d.currencies) × AsClosed (record { currencies = n }) table
   as_closed t o =
@@ -35,6 +32,6 @@ module _ (d : Draft) (table : List Currency) (n : ℕ) (few : n ≡ min d.curren
           within = omega (arith, o.within);
           few = omega (arith, o.few);
           rising = subst (Rising currency_code) (sym all) o.rising;
-          complete = ap (λ (cs : List Currency). incomplete (cash_sheet cs)) all ∙ complete t;
+          complete = grind (arith, common_steps, same, t, all);
         },
       )

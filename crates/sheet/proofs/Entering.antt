@@ -1,9 +1,8 @@
 -- The answer to a currency entry by what a search of the table found, and the table with the entry in it.
-use Rattle.std.proofs.Common.{◌≡◌, ℕ, ◌+◌, ◌<◌, ◌≤◌, true, false, ◌||◌, List, length, take, drop, is_some, Ok, Err, sym, refl, ap, ◌∙◌, subst, arith}
+use Rattle.std.proofs.Common.{◌≡◌, ℕ, ◌+◌, ◌<◌, ◌≤◌, true, false, ◌||◌, List, length, take, drop, is_some, Ok, Err, sym, ap, ◌∙◌, subst, arith}
 use Rattle.std.specs.List.{insert}
-use Rattle.std.proofs.lemmas.Bool.{le-leb, lt-leb}
+use Rattle.std.proofs.lemmas.Grind.{common_steps}
 use Rattle.book.specs.Ranges.{no_currency, no_fx, ranged}
-use Rattle.book.proofs.Answers.{fails, passes}
 use Rattle.book.proofs.Refusals.{not_refused}
 use Rattle.keyed.specs.Rows.{Rising, lookup, Stands, Gap}
 use Rattle.keyed.proofs.Lookups.{lookup_stands, lookup_gap, rising_inserted}
@@ -12,7 +11,7 @@ use Rattle.margin.specs.declared.Currency.{Currency}
 use Rattle.margin.specs.Keys.{currency_code}
 use Rattle.sheet.specs.declared.drafts.Draft.{Draft}
 use Rattle.sheet.specs.declared.faults.SheetCause.TheVariants.{Entered, Full}
-use Rattle.sheet.specs.Faults.{out_of_range, refusal}
+use Rattle.sheet.specs.Faults.{refusal}
 use Rattle.sheet.specs.Drafts.{entries, InOrder, most, enters, EnteredIn}
 
 -- the currency x, with its numbers in their ranges, meets a table in order
@@ -27,13 +26,13 @@ module _ (d : Draft) (table : List Currency) (x : Currency) (u : Unit {0}) (chec
   missing i g = ap is_some (lookup_gap currency_code (entries d table) x.code i g)
 
   pub entered : (i : ℕ) → Stands currency_code (entries d table) x.code i → Err (refusal Entered) ≡ enters d table x.code x.fx
-  entered i s = passes _ out_of_range _ _ inside (fails _ (refusal Entered) _ (found i s))
+  entered i s = grind (arith, common_steps, inside, found i s)
 
   pub full : (i : ℕ) → Gap currency_code (entries d table) x.code i → most table ≤ d.currencies → Err (refusal Full) ≡ enters d table x.code x.fx
-  full i g n = passes _ out_of_range _ _ inside (passes _ (refusal Entered) _ _ (missing i g) (fails _ (refusal Full) _ (le-leb _ _ n)))
+  full i g n = grind (arith, common_steps, inside, missing i g, n)
 
   pub room : (i : ℕ) → Gap currency_code (entries d table) x.code i → d.currencies < most table → Ok tt ≡ enters d table x.code x.fx
-  room i g n = passes _ out_of_range _ _ inside (passes _ (refusal Entered) _ _ (missing i g) (passes _ (refusal Full) _ _ (lt-leb _ _ n) refl))
+  room i g n = grind (arith, common_steps, inside, missing i g, n)
 
   pub put_in : (i : ℕ) (d' : Draft) (table' : List Currency) → Gap currency_code (entries d table) x.code i → d'.currencies ≡ d.currencies + 1 → d.currencies < most table → length table' ≡ length table →
       take (d.currencies + 1) table' ≡ insert (entries d table) i x → drop (d.currencies + 1) table' ≡ drop (d.currencies + 1) table →

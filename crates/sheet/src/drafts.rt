@@ -86,7 +86,7 @@ impl Draft {
         Ok(ClosedSheet { currencies })
     }
 
-    // Ends a draft that is not wanted any more.
+    // Ends a draft that is not wanted any more. It has no `Drop`, so that none is lost unseen.
     pub fn discard(self) {
         let Draft { currencies: _ } = self;
     }
@@ -100,7 +100,7 @@ impl ClosedSheet {
         self.currencies
     }
 
-    // Ends a closed sheet that is spent, or not wanted any more.
+    // Ends a closed sheet that is spent, or not wanted any more. It has no `Drop`, as a draft has none.
     pub fn discard(self) {
         let ClosedSheet { currencies: _ } = self;
     }

@@ -1,6 +1,6 @@
 -- The pieces of each source keep the rules.
-use Rattle.std.specs.Prelude.{◌≡◌, ℕ, ◌-◌, ◌<◌, List, length, Some, None, Option}
-use Rattle.std.proofs.Common.{arith}
+use Rattle.std.specs.Prelude.{◌≡◌, ℕ, ◌<◌, List, length, Some, None, Option}
+use Rattle.std.proofs.Common.{arith, rules}
 use Rattle.keyed.specs.Tables.{holds}
 use Rattle.margin.specs.declared.Piece.{Piece}
 use Rattle.rates.specs.Pieces.{Lawful}
@@ -18,37 +18,13 @@ pub posted_many : (x : PostedRow) → length (of_posted x) ≡ 2
 posted_many x = omega arith
 
 pub posted_row_lawful : (x : PostedRow) → Lawful 2 (of_posted x)
-posted_row_lawful x =
-    record {
-      rules = record {
-        two_or_more = omega arith;
-        six_at_most = omega arith;
-        weights = (omega arith, (omega arith, tt));
-        allowances = (omega arith, (omega arith, tt));
-        light = grind arith;
-        heavy = grind arith;
-      };
-      at_most = omega arith;
-    }
+posted_row_lawful x = search rules
 
 pub stepped_many : (x : SteppedRow) → length (of_stepped x) ≡ 6
 stepped_many x = omega arith
 
 pub stepped_row_lawful : (x : SteppedRow) → Lawful 6 (of_stepped x)
-stepped_row_lawful x =
-    let one = limit_by_step x.k1 (x.s2 - x.s1) (omega arith) (omega arith) in
-    let two = limit_by_step x.k2 (x.s3 - x.s2) (omega arith) (omega arith) in
-    record {
-      rules = record {
-        two_or_more = omega arith;
-        six_at_most = omega arith;
-        weights = (omega arith, (omega arith, (omega arith, (omega arith, (omega arith, (omega arith, tt))))));
-        allowances = (omega arith, (omega arith, (omega arith, (omega arith, (omega arith, (omega arith, tt))))));
-        light = grind arith;
-        heavy = grind arith;
-      };
-      at_most = omega arith;
-    }
+stepped_row_lawful x = search (rules, limit_by_step)
 
 module _ {R : Type 0} (key : R → ℕ) (pieces : R → List Piece) (most : ℕ) (each : (x : R) → Lawful most (pieces x)) where
   given_lawful : (o : Option R) → 0 < length (given pieces o) → Lawful most (given pieces o)
