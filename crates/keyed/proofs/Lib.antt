@@ -1,6 +1,6 @@
 pub mod Far
+pub mod Searches
 pub mod Shifts
-pub mod Narrows
 pub mod Lookups
 pub mod Puts
 pub mod Changes

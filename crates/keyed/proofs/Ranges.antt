@@ -1,9 +1,9 @@
 -- In a list whose keys rise, the records with keys between two numbers stand together.
-use Rattle.std.proofs.Common.{◌≡◌, ℕ, zero, suc, ◌+◌, ◌-◌, ◌<◌, ◌≤◌, max, Bool, true, false, ◌&&◌, leb, List, [], ◌∷◌, length, get_or, take, drop, filter, Result, sym, refl, ap, ◌∙◌, subst, arith}
+use Rattle.std.proofs.Common.{◌≡◌, ℕ, zero, suc, ◌+◌, ◌-◌, ◌<◌, ◌≤◌, max, Bool, true, false, ◌&&◌, leb, ltb, List, [], ◌∷◌, length, get_or, take, drop, filter, Result, sym, refl, ap, ◌∙◌, subst, arith}
 use Rattle.std.proofs.lemmas.List.{take_all}
-use Rattle.std.proofs.lemmas.Bool.{cond-true, cond-false, and_from, and_left, and_right, le-leb, lt-leb}
-use Rattle.keyed.specs.Rows.{Rising, Stands, Gap, Sought, Cut, ranked_between}
-use Rattle.keyed.proofs.Far.{far, level}
+use Rattle.std.specs.List.Sorted.{IsPartitionPoint}
+use Rattle.std.proofs.lemmas.Bool.{cond-true, cond-false, and_from, and_left, and_right, le-leb, lt-leb, ltb-true, ltb-false}
+use Rattle.keyed.specs.Rows.{Rising, Sought, ranked_between}
 
 -- what passes a test stands together, where it is the n records from i on
 stand_together : {R : Type 0} (p : R → Bool) (xs : List R) (i n : ℕ)
@@ -30,30 +30,13 @@ module _ {R : Type 0} (key : R → ℕ) where
   pub sought_all : (xs : List R) (q : ℕ) (r : Result ℕ ℕ) → (Rising key (take (length xs) xs) → Sought key (take (length xs) xs) q r) → Rising key xs → Sought key xs q r
   sought_all xs q r = subst (λ (ys : List R). (Rising key ys → Sought key ys q r)) (take_all (length xs) xs (omega arith))
 
-  -- ---- where a search cuts the list: before the key that it finds, and after it
-  pub stands_before : (xs : List R) (q i : ℕ) → Rising key xs → Stands key xs q i → Cut key xs q i
-  stands_before xs q i up s =
-      record {
-        below = λ k d l. omega (arith, far key xs up k i d l s.within, s.here d);
-        beyond = λ k d l h. omega (arith, level key xs up i k d l h, s.here d);
-      }
-
-  pub stands_after : (xs : List R) (q i : ℕ) → Rising key xs → Stands key xs q i → Cut key xs (q + 1) (i + 1)
-  stands_after xs q i up s =
-      record {
-        below = λ k d l. omega (arith, level key xs up k i d (omega arith) s.within, s.here d);
-        beyond = λ k d l h. omega (arith, far key xs up i k d (omega arith) h, s.here d);
-      }
-
-  pub gap_before : (xs : List R) (q i : ℕ) → Gap key xs q i → Cut key xs q i
-  gap_before xs q i g = record { below = g.below; beyond = λ k d l h. omega (arith, g.above k d l h) }
-
-  pub gap_after : (xs : List R) (q i : ℕ) → Gap key xs q i → Cut key xs (q + 1) i
-  gap_after xs q i g = record { below = λ k d l. omega (arith, g.below k d l); beyond = λ k d l h. omega (arith, g.above k d l h) }
-
-  pub range_is : (xs : List R) (low high i j : ℕ) → Cut key xs low i → Cut key xs (high + 1) j → take (max j i - i) (drop i xs) ≡ ranked_between key low high xs
+  -- where one search ends below `low`, and another beyond `high`
+  pub range_is : (xs : List R) (low high i j : ℕ)
+      → IsPartitionPoint (λ x. ltb (key x) low ≡ true) (λ x. ltb (key x) low ≡ false) xs i
+      → IsPartitionPoint (λ x. ltb (key x) (high + 1) ≡ true) (λ x. ltb (key x) (high + 1) ≡ false) xs j
+      → take (max j i - i) (drop i xs) ≡ ranked_between key low high xs
   range_is xs low high i j from to =
       stand_together (λ x. leb low (key x) && leb (key x) high) xs i (max j i - i)
-      (λ k d l. and_left (leb low (key (get_or xs k d))) (leb (key (get_or xs k d)) high) (lt-leb low (key (get_or xs k d)) (from.below k d l)))
-      (λ k d l m h. and_from (leb low (key (get_or xs k d))) (leb (key (get_or xs k d)) high) (le-leb low (key (get_or xs k d)) (from.beyond k d l h)) (le-leb (key (get_or xs k d)) high (omega (arith, to.below k d (omega arith)))))
-      (λ k d l h. and_right (leb low (key (get_or xs k d))) (leb (key (get_or xs k d)) high) (lt-leb (key (get_or xs k d)) high (omega (arith, to.beyond k d (omega arith) h))))
+      (λ k d l. and_left _ _ (lt-leb low _ (ltb-true _ low (from.0 k d (omega arith) l))))
+      (λ k d l m h. and_from _ _ (le-leb low _ (ltb-false _ low (from.1 k d l h))) (le-leb _ high (omega (arith, ltb-true _ (high + 1) (to.0 k d (omega arith) (omega arith))))))
+      (λ k d l h. and_right _ _ (lt-leb _ high (omega (arith, ltb-false _ (high + 1) (to.1 k d (omega arith) h)))))

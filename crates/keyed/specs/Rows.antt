@@ -2,11 +2,6 @@
 use Rattle.std.specs.Prelude.{◌≡◌, ℕ, suc, ◌<◌, ◌≤◌, true, cond, ◌&&◌, List, [], ◌∷◌, map, length, is_some, Some, None, Ok, Err, filter, Option, Result, ◌==◌, nat_le, nat_lt, slice_index_or}
 use Rattle.std.specs.List.{ContainsAt as Has}
 
--- an answer among n places: one of them, or a place between them or at an end
-abbrev pub Within : ℕ → Result ℕ ℕ → Type 0
-Within n (Ok i) = i < n
-Within n (Err i) = i ≤ n
-
 module _ {R : Type 0} (key : R → ℕ) where
   -- each record's key is below the next one's
   abbrev pub Rising : List R → Type 0
@@ -39,11 +34,6 @@ module _ {R : Type 0} (key : R → ℕ) where
   abbrev pub Sought : List R → ℕ → Result ℕ ℕ → Type 0
   Sought xs q (Ok i) = Stands xs q i
   Sought xs q (Err i) = Gap xs q i
-
-  -- the keys before i are below q; those from i on are not
-  pub record Cut (xs : List R) (q i : ℕ) : Type 0 where
-    pub below : Below xs q i
-    pub beyond : (k : ℕ) (d : R) → i ≤ k → k < length xs → q ≤ key (slice_index_or xs k d)
 
   -- the records with keys from low to high
   abbrev pub ranked_between : ℕ → ℕ → List R → List R

@@ -1,6 +1,6 @@
 // What records are found by.
-ghost use Rattle.std.specs.Prelude.{◌≡◌, ℕ, ◌+◌, ◌*◌, ◌^◌, ◌<◌};
-ghost use Rattle.std.specs.Ordering.{MatchOrdering};
+ghost use Rattle.std.specs.Prelude.{◌≡◌, ℕ, ◌+◌, ◌*◌, ◌^◌};
+ghost use Rattle.std.specs.Ordering.{nat_cmp};
 
 use std::cmp::Ordering;
 
@@ -9,7 +9,7 @@ pub trait Key: Copy {
     ghost rank: { Self → ℕ };
 
     fn compare(self, other: Self) -> Ordering
-        ensures { MatchOrdering result (rank self < rank other) (rank self ≡ rank other) (rank other < rank self) };
+        ensures { result ≡ nat_cmp (rank self) (rank other) };
 }
 
 // A record with a key.
@@ -43,12 +43,6 @@ impl Key for (u16, u16) {
     ghost rank = { λ k. k.0 * 2 ^ 16 + k.1 };
 
     fn compare(self, other: (u16, u16)) -> Ordering {
-        if self.0 < other.0 {
-            Ordering::Less
-        } else if other.0 < self.0 {
-            Ordering::Greater
-        } else {
-            self.1.cmp(&other.1)
-        }
+        self.cmp(&other)
     }
 }

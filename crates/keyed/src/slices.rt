@@ -1,59 +1,27 @@
 // Slices whose first places hold records with rising keys.
 ghost use Rattle.std.specs.Prelude.{◌≡◌, ◌+◌, ◌-◌, ◌<◌, ◌≤◌, min, length, take, drop};
 ghost use Rattle.std.specs.List.{insert, remove};
-ghost use Rattle.keyed.specs.Rows.{Rising, Sought, Within, Cut, ranked_between};
+ghost use Rattle.std.specs.List.Sorted.{IsSearchInRange};
+ghost use Rattle.keyed.specs.Rows.{Rising, Sought, ranked_between};
 
 use crate::keys::{Key, Keyed};
-use std::cmp::Ordering;
 
-// Where `key` stands among the first `used` places of a table, or else where it would. Each turn halves the places that are
-// left to look at, so that n of them take at most as many turns as n has binary digits.
+// Where `key` stands among the first `used` places of a table, or else where it would.
 pub fn find<R: Keyed>(table: &[R], used: usize, key: R::Key) -> Result<usize, usize>
-    ensures within { Within (min used (length table.now)) result }
+    ensures within { IsSearchInRange result (min used (length table.now)) }
     ensures sought { Rising R.Keyed.key (take used table.now) → Sought R.Keyed.key (take used table.now) (R.Key.Key.rank key) result }
 {
-    let mut low = 0;
-    let mut high = used.min(table.len());
-    while low < high {
-        let mid = low + (high - low) / 2;
-        match table[mid].key().compare(key) {
-            Ordering::Equal => return Ok(mid),
-            Ordering::Less => low = mid + 1,
-            Ordering::Greater => high = mid,
-        }
-    }
-    Err(low)
+    let rows = &table[0..used.min(table.len())];
+    rows.binary_search_by(|row| row.key().compare(key))
 }
 
 // The records with keys from `low` to `high`, which stand together.
 pub fn range<R: Keyed>(rows: &[R], low: R::Key, high: R::Key) -> &[R]
     ensures { Rising R.Keyed.key rows.now → result.now ≡ ranked_between R.Keyed.key (R.Key.Key.rank low) (R.Key.Key.rank high) rows.now }
 {
-    let from = count_below(rows, low);
-    let to = count_up_to(rows, high);
+    let from = rows.partition_point(|row| row.key().compare(low).is_lt());
+    let to = rows.partition_point(|row| row.key().compare(high).is_le());
     &rows[from..to.max(from)]
-}
-
-// How many records have keys below `key`.
-fn count_below<R: Keyed>(rows: &[R], key: R::Key) -> usize
-    ensures within { result ≤ length rows.now }
-    ensures cut { Rising R.Keyed.key rows.now → Cut R.Keyed.key rows.now (R.Key.Key.rank key) result }
-{
-    match find(rows, rows.len(), key) {
-        Ok(at) => at,
-        Err(at) => at,
-    }
-}
-
-// How many records have keys up to `key`.
-fn count_up_to<R: Keyed>(rows: &[R], key: R::Key) -> usize
-    ensures within { result ≤ length rows.now }
-    ensures cut { Rising R.Keyed.key rows.now → Cut R.Keyed.key rows.now (R.Key.Key.rank key + 1) result }
-{
-    match find(rows, rows.len(), key) {
-        Ok(at) => at + 1,
-        Err(at) => at,
-    }
 }
 
 // Puts `row` at `at`, and the records from there on one place up, into the first free place.
