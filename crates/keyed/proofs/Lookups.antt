@@ -1,29 +1,26 @@
 -- Look-ups in lists whose keys rise: after each edit, and that they say which list it is.
-use Rattle.std.proofs.Common.{◌≡◌, ℕ, zero, suc, ◌+◌, ◌-◌, ◌<◌, ◌≤◌, false, cond, eqb, List, [], ◌∷◌, length, get_or, set, Some, None, Option, sym, refl, ap, ◌∙◌, subst, inl, inr, arith}
+use Rattle.std.proofs.Common.{◌≡◌, ℕ, zero, suc, ◌+◌, ◌-◌, ◌<◌, ◌≤◌, cond, eqb, List, [], ◌∷◌, length, get_or, set, Some, None, Option, sym, refl, ap, ◌∙◌, subst, inl, inr, arith}
 use Rattle.std.specs.List.{insert, remove, ContainsAt as Has}
 use Rattle.std.proofs.lemmas.List.{length-set, get_or-set_same, get_or-set_other, get_or_default}
 use Rattle.std.proofs.lemmas.List.Edits.{length-insert, length-remove, get_or-insert_below, get_or-insert_at, get_or-insert_above, get_or-remove_below, get_or-remove_above}
-use Rattle.std.proofs.lemmas.Bool.{cases_lt, cases_order, cases_Bool, eq-eqb, ne_eqb, eqb-true, cond-true, cond-false}
+use Rattle.std.proofs.lemmas.Bool.Decides.{nat_tests}
+use Rattle.std.proofs.lemmas.Bool.{cases_lt, cases_order, eq-eqb, cond-true}
 use Rattle.keyed.proofs.Far.{Far, far, near}
 use Rattle.keyed.specs.Rows.{Rising, lookup, Stands, Gap}
 
 -- two tests of q that do not both pass can be made in either order
 pub swap : {Y : Type 0} (q a b : ℕ) (u v w : Y) → (a ≡ b → ⊥) → cond (eqb q a) u (cond (eqb q b) v w) ≡ cond (eqb q b) v (cond (eqb q a) u w)
-swap q a b u v w apart =
-    elim (cases_Bool (eqb q a)) [
-      | inl s ↦ let f : eqb q b ≡ false = ne_eqb q b (λ e. apart (sym (eqb-true q a s) ∙ e)) in rw (s, f)
-      | inr s ↦ rw s
-    ]
+swap q a b u v w apart = grind (arith, nat_tests, apart)
 
 -- f with w at k
 abbrev pub written : {R : Type 0} → (ℕ → Option R) → ℕ → Option R → ℕ → Option R
 written f k w q = cond (eqb q k) w (f q)
 
 pub written_here : {R : Type 0} (f : ℕ → Option R) (k : ℕ) (w : Option R) → written f k w k ≡ w
-written_here f k w = cond-true (eqb k k) w (f k) (eq-eqb k k refl)
+written_here f k w = grind (arith, nat_tests)
 
 pub written_apart : {R : Type 0} (f : ℕ → Option R) (k : ℕ) (w : Option R) (q : ℕ) → (q ≡ k → ⊥) → written f k w q ≡ f q
-written_apart f k w q ne = cond-false (eqb q k) w (f q) (ne_eqb q k ne)
+written_apart f k w q ne = grind (arith, nat_tests, ne)
 
 module _ {R : Type 0} (key : R → ℕ) where
   -- no record has the key q
@@ -38,29 +35,17 @@ module _ {R : Type 0} (key : R → ℕ) where
 
   pub lookup_none : (xs : List R) (q : ℕ) → Apart xs q → lookup key xs q ≡ None
   lookup_none [] q h = refl
-  lookup_none (x ∷ xs) q h =
-      cond-false (eqb q (key x)) (Some x) (lookup key xs q) (ne_eqb q (key x) (h 0 x (omega arith)))
-      ∙ lookup_none xs q (λ k d l. h (suc k) d (omega arith))
+  lookup_none (x ∷ xs) q h = grind (arith, nat_tests, h 0 x (omega arith), lookup_none xs q (λ k d l. h (suc k) d (omega arith)))
 
   -- a record is found under its own key alone
   pub lookup_key : (xs : List R) (q : ℕ) (x : R) → lookup key xs q ≡ Some x → key x ≡ q
   lookup_key [] q x e = let z : ◌≡◌ {A = ℕ} 0 1 = cc in absurd (omega arith)
-  lookup_key (y ∷ ys) q x e =
-      elim (cases_Bool (eqb q (key y))) [
-        | inl s ↦
-            let f : Some y ≡ Some x = sym (cond-true (eqb q (key y)) (Some y) (lookup key ys q) s) ∙ e in
-            let g : y ≡ x = cc in
-            ap key (sym g) ∙ sym (eqb-true q (key y) s)
-        | inr s ↦ lookup_key ys q x (sym (cond-false (eqb q (key y)) (Some y) (lookup key ys q) s) ∙ e)
-      ]
+  lookup_key (y ∷ ys) q x e = grind (arith, nat_tests, lookup_key ys q x)
 
   pub lookup_at : (xs : List R) (i : ℕ) (d : R) → Rising key xs → i < length xs → lookup key xs (key (get_or xs i d)) ≡ Some (get_or xs i d)
   lookup_at [] i d up h = absurd (omega arith)
-  lookup_at (x ∷ xs) zero d up h = cond-true (eqb (key x) (key x)) (Some x) (lookup key xs (key x)) (eq-eqb (key x) (key x) refl)
-  lookup_at (x ∷ xs) (suc i) d up h =
-      let l : key x < key (get_or xs i d) = first x xs up i d (omega arith) in
-      cond-false (eqb (key (get_or xs i d)) (key x)) (Some x) (lookup key xs (key (get_or xs i d))) (ne_eqb (key (get_or xs i d)) (key x) (λ e. omega arith))
-      ∙ lookup_at xs i d (rest x xs up) (omega arith)
+  lookup_at (x ∷ xs) zero d up h = grind (arith, nat_tests)
+  lookup_at (x ∷ xs) (suc i) d up h = grind (arith, nat_tests, first x xs up i d (omega arith), lookup_at xs i d (rest x xs up) (omega arith))
 
   pub lookup_has : (xs : List R) (x : R) → Rising key xs → Has xs x → lookup key xs (key x) ≡ Some x
   lookup_has xs x up h = subst (λ (y : R). lookup key xs (key y) ≡ Some y) (h.2 x) (lookup_at xs h.0 x up h.1)
@@ -78,9 +63,7 @@ module _ {R : Type 0} (key : R → ℕ) where
   pub lookup_insert : (xs : List R) (i : ℕ) (x : R) (q : ℕ) → i ≤ length xs → Apart xs (key x) → lookup key (insert xs i x) q ≡ written (lookup key xs) (key x) (Some x) q
   lookup_insert xs zero x q le h = refl
   lookup_insert [] (suc i) x q le h = absurd (omega arith)
-  lookup_insert (y ∷ ys) (suc i) x q le h =
-      ap (λ (w : Option R). cond (eqb q (key y)) (Some y) w) (lookup_insert ys i x q (omega arith) (λ k d l. h (suc k) d (omega arith)))
-      ∙ swap q (key y) (key x) (Some y) (Some x) (lookup key ys q) (λ e. h 0 y (omega arith) (sym e))
+  lookup_insert (y ∷ ys) (suc i) x q le h = grind (arith, nat_tests, h 0 y (omega arith), lookup_insert ys i x q (omega arith) (λ k d l. h (suc k) d (omega arith)))
 
   pub lookup_inserted : (xs : List R) (i : ℕ) (x : R) (q : ℕ) → Gap key xs (key x) i → lookup key (insert xs i x) q ≡ written (lookup key xs) (key x) (Some x) q
   lookup_inserted xs i x q g = lookup_insert xs i x q g.within (apart_gap xs (key x) i g)
@@ -116,14 +99,8 @@ module _ {R : Type 0} (key : R → ℕ) where
   -- ---- one record less
   pub lookup_remove : (xs : List R) (i : ℕ) (d : R) (q : ℕ) → Rising key xs → i < length xs → lookup key (remove xs i) q ≡ written (lookup key xs) (key (get_or xs i d)) None q
   lookup_remove [] i d q up h = absurd (omega arith)
-  lookup_remove (x ∷ xs) zero d q up h =
-      elim (cases_Bool (eqb q (key x))) [
-        | inl s ↦ lookup_none xs q (λ k e l p. omega (arith, first x xs up k e l, eqb-true q (key x) s)) ∙ sym (cond-true (eqb q (key x)) None (lookup key (x ∷ xs) q) s)
-        | inr s ↦ sym (cond-false (eqb q (key x)) None (lookup key (x ∷ xs) q) s ∙ cond-false (eqb q (key x)) (Some x) (lookup key xs q) s)
-      ]
-  lookup_remove (x ∷ xs) (suc i) d q up h =
-      ap (λ (w : Option R). cond (eqb q (key x)) (Some x) w) (lookup_remove xs i d q (rest x xs up) (omega arith))
-      ∙ swap q (key x) (key (get_or xs i d)) (Some x) None (lookup key xs q) (λ e. omega (arith, first x xs up i d (omega arith)))
+  lookup_remove (x ∷ xs) zero d q up h = grind (arith, nat_tests, λ (e : q ≡ key x). lookup_none xs q (λ k d l p. omega (arith, first x xs up k d l)))
+  lookup_remove (x ∷ xs) (suc i) d q up h = grind (arith, nat_tests, first x xs up i d (omega arith), lookup_remove xs i d q (rest x xs up) (omega arith))
 
   far_removed : (xs : List R) (at : ℕ) → Far key xs → at < length xs → Far key (remove xs at)
   far_removed xs at up in' i j d l h =
@@ -143,17 +120,8 @@ module _ {R : Type 0} (key : R → ℕ) where
   -- ---- a record in the place of one with its key
   pub lookup_replace : (xs : List R) (i : ℕ) (x : R) (q : ℕ) → Rising key xs → i < length xs → key (get_or xs i x) ≡ key x → lookup key (set xs i x) q ≡ written (lookup key xs) (key x) (Some x) q
   lookup_replace [] i x q up h e = absurd (omega arith)
-  lookup_replace (y ∷ ys) zero x q up h e =
-      elim (cases_Bool (eqb q (key x))) [
-        | inl s ↦ cond-true (eqb q (key x)) (Some x) (lookup key ys q) s ∙ sym (cond-true (eqb q (key x)) (Some x) (lookup key (y ∷ ys) q) s)
-        | inr s ↦
-            let t : eqb q (key y) ≡ false = ap (eqb q) e ∙ s in
-            cond-false (eqb q (key x)) (Some x) (lookup key ys q) s
-            ∙ sym (cond-false (eqb q (key x)) (Some x) (lookup key (y ∷ ys) q) s ∙ cond-false (eqb q (key y)) (Some y) (lookup key ys q) t)
-      ]
-  lookup_replace (y ∷ ys) (suc i) x q up h e =
-      ap (λ (w : Option R). cond (eqb q (key y)) (Some y) w) (lookup_replace ys i x q (rest y ys up) (omega arith) e)
-      ∙ swap q (key y) (key x) (Some y) (Some x) (lookup key ys q) (λ f. omega (arith, first y ys up i x (omega arith)))
+  lookup_replace (y ∷ ys) zero x q up h e = grind (arith, nat_tests)
+  lookup_replace (y ∷ ys) (suc i) x q up h e = grind (arith, nat_tests, first y ys up i x (omega arith), lookup_replace ys i x q (rest y ys up) (omega arith) e)
 
   far_replaced : (xs : List R) (at : ℕ) (x : R) → Far key xs → at < length xs → key (get_or xs at x) ≡ key x → Far key (set xs at x)
   far_replaced xs at x up in' same i j d l h =

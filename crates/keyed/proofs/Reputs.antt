@@ -1,7 +1,8 @@
 -- A change of a list whose keys rise: the new record, put to those with other keys, in some order.
-use Rattle.std.proofs.Common.{◌≡◌, ℕ, not, eqb, List, [], ◌∷◌, ◌++◌, Some, None, Option, sym, refl, ap, ◌∙◌, subst, inl, inr, arith}
+use Rattle.std.proofs.Common.{◌≡◌, ℕ, eqb, List, [], ◌∷◌, ◌++◌, Some, None, Option, sym, refl, ap, ◌∙◌, subst, inl, inr, arith}
 use Rattle.std.specs.Option.{option_to_list}
-use Rattle.std.proofs.lemmas.Bool.{cases_order, cases_Bool, eq-eqb, ne_eqb, eqb-true, cond-true, cond-false}
+use Rattle.std.proofs.lemmas.Bool.Decides.{nat_tests}
+use Rattle.std.proofs.lemmas.Bool.{cases_order, eq-eqb, ne_eqb, cond-true, cond-false}
 use Rattle.keyed.specs.Laws.{Under, Reordering, all_but}
 use Rattle.keyed.specs.Reordered.{Reordered}
 use Rattle.keyed.specs.Reordered.Reordered.{keeping, swapping, again}
@@ -15,17 +16,8 @@ module _ {R : Type 0} (key : R → ℕ) where
   pub without_is : (xs : List R) (k : ℕ) → Rising key xs → without key xs k ≡ all_but key xs k
   without_is [] k up = refl
   without_is (y ∷ ys) k up =
-      elim (cases_Bool (eqb k (key y))) [
-        | inl s ↦
-            cond-true (eqb k (key y)) ys (y ∷ without key ys k) s
-            ∙ sym (without_none key ys k (lookup_none key ys k (λ i d h e. omega (arith, first key y ys up i d h, eqb-true k (key y) s))))
-            ∙ without_is ys k (rest key y ys up)
-            ∙ sym (cond-false (not (eqb k (key y))) (y ∷ all_but key ys k) (all_but key ys k) (ap not s))
-        | inr s ↦
-            cond-false (eqb k (key y)) ys (y ∷ without key ys k) s
-            ∙ ap (λ (zs : List R). y ∷ zs) (without_is ys k (rest key y ys up))
-            ∙ sym (cond-true (not (eqb k (key y))) (y ∷ all_but key ys k) (all_but key ys k) (ap not s))
-      ]
+      let none : k ≡ key y → without key ys k ≡ ys = λ e. without_none key ys k (lookup_none key ys k (λ i d h f. omega (arith, first key y ys up i d h))) in
+      grind (arith, nat_tests, none, without_is ys k (rest key y ys up))
 
   with_is : (xs : List R) (x : R) → Rising key xs → Reordered (with_row key xs x) (x ∷ without key xs (key x))
   with_is [] x up = reordered_refl (x ∷ [])

@@ -1,6 +1,6 @@
 -- What the library's searches answer for records whose keys rise.
-use Rattle.std.proofs.Common.{◌≡◌, ℕ, ◌+◌, ◌-◌, ◌*◌, ◌^◌, ◌<◌, ◌≤◌, min, ltb, List, length, take, Ok, Err, Result, sym, subst, arith}
-use Rattle.std.specs.Ordering.{nat_cmp, ordering_index, ordering_then, is_lt, is_le}
+use Rattle.std.proofs.Common.{◌≡◌, ℕ, ◌+◌, ◌-◌, ◌≤◌, min, ltb, List, length, take, Ok, Err, Result, sym, subst, arith}
+use Rattle.std.specs.Ordering.{nat_cmp, ordering_index, is_lt, is_le}
 use Rattle.std.specs.List.Sorted.{IsSearchInRange, IsBinarySearchResult}
 use Rattle.std.proofs.lemmas.Cmp.{ranked}
 use Rattle.std.proofs.lemmas.List.{length-take, take_min}
@@ -12,10 +12,6 @@ use Rattle.keyed.proofs.Far.{level}
 ordered : (a b q : ℕ) → a ≤ b → ordering_index (nat_cmp a q) ≤ ordering_index (nat_cmp b q)
 ordered a b q le = grind (arith, nat_tests)
 
--- a pair goes as the number that its parts make
-pub paired : (a b c d : ℕ) → b < 2 ^ 16 → d < 2 ^ 16 → ordering_then (nat_cmp a c) (nat_cmp b d) ≡ nat_cmp (a * 2 ^ 16 + b) (c * 2 ^ 16 + d)
-paired a b c d lb ld = grind (arith, nat_tests)
-
 -- the tests that cut a list: below q, and up to q
 pub tests_below : (a q : ℕ) → is_lt (nat_cmp a q) ≡ ltb a q
 tests_below a q = grind (arith, nat_tests)
@@ -24,6 +20,7 @@ pub tests_up_to : (a q : ℕ) → is_le (nat_cmp a q) ≡ ltb a (q + 1)
 tests_up_to a q = grind (arith, nat_tests)
 
 module _ {R : Type 0} (key : R → ℕ) where
+  -- where a search by comparison ends
   sought : (xs : List R) → Rising key xs → (q : ℕ) (r : Result ℕ ℕ) → IsSearchInRange r (length xs) → IsBinarySearchResult (λ y. nat_cmp (key y) q) xs r → Sought key xs q r
   sought xs up q (Ok i) within equal = record { within = within; here = λ d. ranked _ q _ (sym (equal d)) }
   sought xs up q (Err i) within parted =

@@ -1,13 +1,7 @@
 use Rattle.std.proofs.Common.{Some, refl, ◌∙◌}
-use Rattle.keyed.proofs.Holdings.{rise_put, standing_is, sets}
+use Rattle.keyed.proofs.Holdings.{standing_is, sets}
 use Rattle.keyed.proofs.Puts.{replaced_is}
 use Rattle.keyed.proofs.table.Table.write.Goals as goal
-
-pub invariant_of-self : goal.invariant_of-self
-invariant_of-self g c =
-    let key = g.R.Keyed.key in
-    let up = c.args.self.now.rising in
-    record { rising = rise_put key _ _ _ (Some c.args.row) up refl (c.write.ensures.records ∙ replaced_is key _ _ _ up c.requires) }
 
 pub returns : goal.returns
 returns g c =
