@@ -50,11 +50,3 @@ pub cash_small : (cs : List Currency) (zs : List ℤ) (k : ℕ) → Small zs →
 cash_small [] zs k h = omega arith
 cash_small (c ∷ cs) [] k h = omega arith
 cash_small (c ∷ cs) (z ∷ zs) k h = cond_both (eqb k c.code) _ _ (λ (y : ℤ). nat_abs y ≤ 200000000000) (λ _. h 0) (λ _. cash_small cs zs k (λ i. h (suc i)))
-
--- a write leaves each amount small
-pub small_set : (zs : List ℤ) (k : ℕ) (z : ℤ) → Small zs → nat_abs z ≤ 200000000000 → Small (set zs k z)
-small_set [] k z all one i = all i
-small_set (y ∷ ys) zero z all one zero = one
-small_set (y ∷ ys) zero z all one (suc i) = all (suc i)
-small_set (y ∷ ys) (suc k) z all one zero = all zero
-small_set (y ∷ ys) (suc k) z all one (suc i) = small_set ys k z (λ j. all (suc j)) one i

@@ -75,13 +75,13 @@ same_holds h r t same H =
     let cs = ap (λ (v : Vec Currency Global). vec_items v) same.currencies in
     record {
       sheet = H.sheet ∙ sym (ap cash_sheet cs);
-      «open» = λ j. H.«open» j ∙ sym (ap (λ (u : Table Portfolio). is_some (holds portfolio_number u j)) same.portfolios);
-      cash = λ j k. H.cash j k ∙ sym (ap (λ (l : List Currency). cash_in l (portfolio t j) k) cs ∙ ap (λ (u : Table Portfolio). cash_in (currencies r) (holds portfolio_number u j) k) same.portfolios);
+      «open» = λ j. H.«open» j ∙ sym (ap (λ (u : Table Portfolio _ _ _). is_some (holds portfolio_number u j)) same.portfolios);
+      cash = λ j k. H.cash j k ∙ sym (ap (λ (l : List Currency). cash_in l (portfolio t j) k) cs ∙ ap (λ (u : Table Portfolio _ _ _). cash_in (currencies r) (holds portfolio_number u j) k) same.portfolios);
       planned = H.planned;
       orders = H.orders;
       lines = H.lines;
-      count = H.count ∙ sym (ap (λ (u : Table Portfolio). length (entries u)) same.portfolios);
-      places = H.places ∙ sym (ap (λ (u : Table Portfolio). room u) same.portfolios);
+      count = H.count ∙ sym (ap (λ (u : Table Portfolio _ _ _). length (entries u)) same.portfolios);
+      places = H.places ∙ sym (ap (λ (u : Table Portfolio _ _ _). room u) same.portfolios);
     }
 
 -- what is reached is a lawful run

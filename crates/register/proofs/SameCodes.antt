@@ -1,7 +1,7 @@
 -- Two lists of currencies, compared code by code.
-use Rattle.std.proofs.Common.{◌≡◌, ℕ, suc, ◌+◌, ◌<◌, ◌≤◌, Bool, true, false, cond, not, ◌&&◌, eqb, List, [], ◌∷◌, length, get_or, drop, ℤ, Ok, Err, sym, refl, ap, ◌∙◌, add-one, arith, drop-cons}
-use Rattle.std.proofs.lemmas.List.{drop_all}
-use Rattle.std.proofs.lemmas.Bool.{eq-eqb, ne_eqb, eqb-true, and_parts, both_ways}
+use Rattle.std.proofs.Common.{◌≡◌, ℕ, suc, Bool, true, false, cond, not, ◌&&◌, ◌==◌, eqb, List, [], ◌∷◌, length, ℤ, Ok, Err, sym, refl, ap, ◌∙◌, arith}
+use Rattle.std.specs.List.{list_all, zip}
+use Rattle.std.proofs.lemmas.Bool.{eqb-true, and_parts, both_ways}
 use Rattle.sheet.specs.declared.faults.SheetCause.TheVariants.{Unfit}
 use Rattle.sheet.specs.Faults.{refusal}
 use Rattle.margin.specs.declared.Currency.{Currency}
@@ -34,15 +34,11 @@ same_cash (x ∷ xs) (y ∷ ys) (z ∷ zs) k e =
     let p = and_parts (eqb x.code y.code) (same_codes xs ys) e in
     ap (λ (n : ℕ). cond (eqb k n) z (cash_by ys zs k)) (sym (eqb-true x.code y.code p.0)) ∙ ap (cond (eqb k x.code) z) (same_cash xs ys zs k p.1)
 
-module _ (xs ys : List Currency) (i : ℕ) (d : Currency) where
-  pub codes_skip : i < length xs → i < length ys → (get_or xs i d).code ≡ (get_or ys i d).code → same_codes (drop (i + 1) xs) (drop (i + 1) ys) ≡ same_codes (drop i xs) (drop i ys)
-  codes_skip h k e = rw (add-one, drop-cons xs i d, drop-cons ys i d) (sym (ap (λ (b : Bool). b && same_codes (drop (suc i) xs) (drop (suc i) ys)) (eq-eqb _ _ e)))
-
-  pub codes_differ : i < length xs → i < length ys → ((get_or xs i d).code ≡ (get_or ys i d).code → ⊥) → false ≡ same_codes (drop i xs) (drop i ys)
-  codes_differ h k e = rw (drop-cons xs i d, drop-cons ys i d) (sym (ap (λ (b : Bool). b && same_codes (drop (suc i) xs) (drop (suc i) ys)) (ne_eqb _ _ e)))
-
-  pub codes_end : length xs ≤ i → length ys ≤ i → true ≡ same_codes (drop i xs) (drop i ys)
-  codes_end h k = sym (ap (λ (l : List Currency). same_codes l (drop i ys)) (drop_all i xs h) ∙ ap (same_codes []) (drop_all i ys k))
+pub zipped : (xs ys : List Currency) → length xs ≡ length ys → list_all (λ p. p.0.code == p.1.code) (zip xs ys) ≡ same_codes xs ys
+zipped [] [] e = refl
+zipped [] (y ∷ ys) e = absurd (omega arith)
+zipped (x ∷ xs) [] e = absurd (omega arith)
+zipped (x ∷ xs) (y ∷ ys) e = ap (λ (b : Bool). (x.code == y.code) && b) (zipped xs ys (omega arith))
 
 -- what is not refused has the same codes
 pub fitting : (b : Bool) (u : Unit {0}) → Ok u ≡ cond (not b) (Err (refusal Unfit)) (Ok tt) → b ≡ true

@@ -34,11 +34,11 @@ same_cash_in cs ds (Some x) k e = same_cash cs ds x.cash k e
 pub put : (r t : Register) (cs : List Currency) → currencies t ≡ cs → t.portfolios ≡ r.portfolios → same_codes (currencies r) cs ≡ true → Puts r (cash_sheet cs) t
 put r t cs e same codes = record {
   sheet = ap cash_sheet e;
-  «open» = λ j. ap (λ (u : Table Portfolio). is_some (holds portfolio_number u j)) same;
+  «open» = λ j. ap (λ (u : Table Portfolio _ _ _). is_some (holds portfolio_number u j)) same;
   cash = λ j k.
       ap (λ (l : List Currency). cash_in l (portfolio t j) k) e
-      ∙ ap (λ (u : Table Portfolio). cash_in cs (holds portfolio_number u j) k) same
+      ∙ ap (λ (u : Table Portfolio _ _ _). cash_in cs (holds portfolio_number u j) k) same
       ∙ same_cash_in (currencies r) cs (portfolio r j) k codes;
-  count = ap (λ (u : Table Portfolio). length (entries u)) same;
-  places = ap (λ (u : Table Portfolio). room u) same;
+  count = ap (λ (u : Table Portfolio _ _ _). length (entries u)) same;
+  places = ap (λ (u : Table Portfolio _ _ _). room u) same;
 }

@@ -1,5 +1,5 @@
 -- What the table of portfolios holds after a change.
-use Rattle.std.proofs.Common.{◌≡◌, ℕ, ◌+◌, Bool, true, false, cond, ◌||◌, eqb, List, length, replicate, ℤ, pos, is_some, Some, None, Ok, Err, vec_items, Option, Result, Vec, sym, refl, ap, ◌∙◌, ⊎_elim, arith}
+use Rattle.std.proofs.Common.{◌≡◌, ℕ, ◌+◌, Bool, true, false, cond, ◌||◌, eqb, List, length, replicate, ℤ, pos, is_some, Some, None, Ok, Err, vec_items, Option, Result, Vec, sym, refl, ap, ◌∙◌, subst, ⊎_elim, arith}
 use Rattle.std.specs.Option.{option_map, option_to_list}
 use Rattle.std.proofs.lemmas.Bool.{cases_eq, eq-eqb, ne_eqb, eqb-true, cond-true, cond-false, both_ways}
 use Rattle.std.specs.declared.alloc.Global.{Global}
@@ -18,12 +18,12 @@ use Rattle.register.specs.Writes.{Writes, Adds, cash_of}
 use Rattle.register.proofs.CashPlaces.{cash_none}
 
 -- how many records there are after one is put in
-count_after : (s t : Table Portfolio) (x : Portfolio) (o : Option Portfolio) → Sound portfolio_number s → holds portfolio_number s x.number ≡ o → Sets portfolio_number s t x.number (Some x) → length (entries t) + length (option_to_list o) ≡ length (entries s) + 1
+count_after : {K : Type 0} {keyed : _} {ranks : _} (s t : Table Portfolio K keyed ranks) (x : Portfolio) (o : Option Portfolio) → Sound portfolio_number s → holds portfolio_number s x.number ≡ o → Sets portfolio_number s t x.number (Some x) → length (entries t) + length (option_to_list o) ≡ length (entries s) + 1
 count_after s t x o up h e =
     omega (arith, ap (λ (l : List Portfolio). length l) e.rows, (sized portfolio_number).length_with (entries s) x up, ap (λ (o : Option Portfolio). length (option_to_list o)) h)
 
 -- what is found of a portfolio after one is put in
-found_after : (s t : Table Portfolio) (x : Portfolio) → Sets portfolio_number s t x.number (Some x) → (j : ℕ) → holds portfolio_number t j ≡ cond (eqb j x.number) (Some x) (holds portfolio_number s j)
+found_after : {K : Type 0} {keyed : _} {ranks : _} (s t : Table Portfolio K keyed ranks) (x : Portfolio) → Sets portfolio_number s t x.number (Some x) → (j : ℕ) → holds portfolio_number t j ≡ cond (eqb j x.number) (Some x) (holds portfolio_number s j)
 found_after s t x e j =
     ⊎_elim
     (λ same. ap (holds portfolio_number t) same ∙ e.here ∙ sym (cond-true (eqb j x.number) (Some x) (holds portfolio_number s j) (eq-eqb j x.number same)))
@@ -39,9 +39,13 @@ written s t x None same there h = absurd (both_ways true (sym there ∙ ap is_so
 written s t x (Some y) same there h = record {
   currencies = same;
   cash = λ j. ap (option_map cash_of) (found_after s.portfolios t.portfolios x h.1 j) ∙ mapped_cond cash_of (eqb j x.number) x (portfolio s j);
-  count = omega (arith, count_after s.portfolios t.portfolios x (Some y) s.portfolios_rise h.0 h.1);
+  count = omega (arith, count_after s.portfolios t.portfolios x (Some y) s.portfolios.rising h.0 h.1);
   places = h.1.room;
 }
+
+-- the same, by the number and the cash that the record is known to have
+pub written_as : (r t : Register) (x : Portfolio) (p : ℕ) (zs : List ℤ) → x.number ≡ p → x.cash ≡ zs → Writes r x.number x.cash t → Writes r p zs t
+written_as r t x p zs n e w = subst (λ (l : List ℤ). Writes r p l t) e (subst (λ (q : ℕ). Writes r q x.cash t) n w)
 
 -- ---- a portfolio is put in
 none_open : (b : Bool) (x : Portfolio) (o : Option Portfolio) → is_some (cond b (Some x) o) ≡ (b || is_some o)
@@ -65,7 +69,7 @@ module _ (s t : Register) (x : Portfolio) (same : t.currencies ≡ s.currencies)
               ap (λ (l : List Currency). cash_in l (portfolio t j) k) cs
               ∙ ap (λ (o : Option Portfolio). cash_in (currencies s) o k) (found_after s.portfolios t.portfolios x h.2 j)
               ∙ no_cash (currencies s) (eqb j x.number) x (portfolio s j) k none (λ b. ap (portfolio s) (eqb-true j x.number b) ∙ h.0);
-          count = omega (arith, count_after s.portfolios t.portfolios x None s.portfolios_rise h.0 h.2);
+          count = omega (arith, count_after s.portfolios t.portfolios x None s.portfolios.rising h.0 h.2);
           places = h.2.room;
         },
       )

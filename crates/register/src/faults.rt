@@ -2,28 +2,29 @@
 ghost use Rattle.std.specs.Prelude.{◌≡◌};
 ghost use Rattle.sheet.specs.declared.faults.SheetFault.TheVariants.{Field as InField};
 ghost use Rattle.register.specs.declared.faults.RegisterFault.TheVariants.{Sheet as InSheet};
-ghost use Rattle.register.specs.Faults.{fault_number, fault_place, fault_layer, fault_at};
+ghost use Rattle.register.specs.Faults.{fault_number, fault_place, fault_layer, fault_at, refusal};
 
 use book::FieldFault;
 use sheet::SheetFault;
 
-#[derive(Clone, Copy)]
+// Each cause has the number of its refusal.
+#[derive(Clone, Copy, Debug, PartialEq, Eq)]
 pub enum RegisterCause {
     // there is no such portfolio
-    NoPortfolio,
+    NoPortfolio = 14,
     // the portfolio exists
-    PortfolioExists,
+    PortfolioExists = 15,
     // the code is not in the sheet in force
-    CodeMissing,
+    CodeMissing = 16,
     // there is no free place
-    NoPlace,
+    NoPlace = 22,
     // the gross would be over its limit
-    Gross,
+    Gross = 23,
     // the worst case would be below nought and below what it is
-    WorstCase,
+    WorstCase = 24,
 }
 
-#[derive(Clone, Copy)]
+#[derive(Clone, Copy, Debug, PartialEq, Eq)]
 pub enum RegisterFault {
     Sheet(SheetFault),
     State { cause: RegisterCause, place: usize },
@@ -53,20 +54,21 @@ impl From<FieldFault> for RegisterFault {
     }
 }
 
+impl From<RegisterCause> for RegisterFault {
+    ghost from_gives = { λ c r. r ≡ refusal c };
+
+    fn from(cause: RegisterCause) -> RegisterFault {
+        RegisterFault::State { cause, place: 0 }
+    }
+}
+
 impl RegisterFault {
     pub fn number(&self) -> u8
         ensures { result ≡ fault_number self.now }
     {
         match self {
             RegisterFault::Sheet(fault) => fault.number(),
-            RegisterFault::State { cause, .. } => match cause {
-                RegisterCause::NoPortfolio => 14,
-                RegisterCause::PortfolioExists => 15,
-                RegisterCause::CodeMissing => 16,
-                RegisterCause::NoPlace => 22,
-                RegisterCause::Gross => 23,
-                RegisterCause::WorstCase => 24,
-            },
+            RegisterFault::State { cause, .. } => *cause as u8,
         }
     }
 

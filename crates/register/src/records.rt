@@ -1,6 +1,8 @@
-// A portfolio: its number, and its cash by the place of the currency in the sheet.
+// A portfolio: its number, and its cash by the place of the currency in the sheet. The places are a fixed array: a
+// portfolio wants no memory of its own.
 ghost use Rattle.std.specs.Prelude.{ℕ, ◌≤◌, pos, slice_index_or, unsigned_abs};
 
+pub(crate) mod cash;
 pub(crate) mod keys;
 
 #[derive(Clone, Copy)]

@@ -1,11 +1,9 @@
 // The register itself. Its type keeps the keys of its tables in rising order, and a sheet in force that closing accepted.
 ghost use Rattle.std.specs.Prelude.{◌≡◌, ◌≤◌, false, vec_len};
 ghost use Rattle.keyed.specs.Rows.{Rising};
-ghost use Rattle.keyed.specs.Tables.{Sound};
 ghost use Rattle.margin.specs.Cash.{cash_sheet};
 ghost use Rattle.margin.specs.Keys.{currency_code};
 ghost use Rattle.sheet.specs.Drafts.{incomplete};
-ghost use Rattle.register.specs.Keys.{portfolio_number};
 
 use crate::records::Portfolio;
 use keyed::Table;
@@ -23,5 +21,4 @@ pub struct Register {
     ghost few: { vec_len currencies ≤ 8 },
     ghost currencies_rise: { Rising currency_code currencies.items },
     ghost complete: { incomplete (cash_sheet currencies.items) ≡ false },
-    ghost portfolios_rise: { Sound portfolio_number portfolios },
 }

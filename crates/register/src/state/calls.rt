@@ -1,7 +1,8 @@
 // What is asked of the register. `answer` says which refusal comes, or what is answered, for every register that can
 // exist; `tables` says what it then holds. A refusal leaves it as it was. `run` says: whatever was asked and answered
 // before, if that led to the register as it stood, then with this call and its answer it leads to the register as it
-// stands, by a lawful run.
+// stands, by a lawful run. That follows by one lemma from the other two clauses: so each call stands on a function with
+// those two, and the lemma is asked once, not again at each refusal.
 ghost use Rattle.std.specs.Prelude.{◌≡◌, pos, neg_ℤ, MatchResult};
 ghost use Rattle.rules.specs.Calls as calls;
 ghost use Rattle.rules.specs.Histories.{History, asked};
@@ -11,6 +12,7 @@ ghost use Rattle.register.specs.Runs.{said, said_figures, Reached, Run};
 
 use super::Register;
 use crate::faults::RegisterFault;
+use book::Payment;
 use margin::Figures;
 
 impl Register {
@@ -24,31 +26,21 @@ impl Register {
     }
 
     // Pays cash in.
-    pub fn pay_in(
-        &mut self,
-        portfolio: u16,
-        currency: u16,
-        amount: u64,
-    ) -> Result<(), RegisterFault>
-        ensures answer { result ≡ pays_in self.old portfolio currency amount }
-        ensures tables { MatchResult result (λ _. Pays self.old portfolio currency (pos amount) self.new) (λ _. Unchanged self.old self.new) }
-        ensures run { (h : History) → Reached h self.old → Run (asked h (calls.pay_in portfolio currency amount) (said result)) self.new }
+    pub fn pay_in(&mut self, payment: Payment) -> Result<(), RegisterFault>
+        ensures answer { result ≡ pays_in self.old payment.portfolio payment.currency payment.amount }
+        ensures tables { MatchResult result (λ _. Pays self.old payment.portfolio payment.currency (pos payment.amount) self.new) (λ _. Unchanged self.old self.new) }
+        ensures run { (h : History) → Reached h self.old → Run (asked h (calls.pay_in payment.portfolio payment.currency payment.amount) (said result)) self.new }
     {
-        self.paying_in(portfolio, currency, amount)
+        self.paying_in(payment)
     }
 
     // Pays cash out.
-    pub fn pay_out(
-        &mut self,
-        portfolio: u16,
-        currency: u16,
-        amount: u64,
-    ) -> Result<(), RegisterFault>
-        ensures answer { result ≡ pays_out self.old portfolio currency amount }
-        ensures tables { MatchResult result (λ _. Pays self.old portfolio currency (neg_ℤ (pos amount)) self.new) (λ _. Unchanged self.old self.new) }
-        ensures run { (h : History) → Reached h self.old → Run (asked h (calls.pay_out portfolio currency amount) (said result)) self.new }
+    pub fn pay_out(&mut self, payment: Payment) -> Result<(), RegisterFault>
+        ensures answer { result ≡ pays_out self.old payment.portfolio payment.currency payment.amount }
+        ensures tables { MatchResult result (λ _. Pays self.old payment.portfolio payment.currency (neg_ℤ (pos payment.amount)) self.new) (λ _. Unchanged self.old self.new) }
+        ensures run { (h : History) → Reached h self.old → Run (asked h (calls.pay_out payment.portfolio payment.currency payment.amount) (said result)) self.new }
     {
-        self.paying_out(portfolio, currency, amount)
+        self.paying_out(payment)
     }
 
     // The six figures of a portfolio.

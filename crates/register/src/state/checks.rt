@@ -1,20 +1,12 @@
 // The checks of each call in their order, and the change where none fails. A refusal leaves the register as it was.
 ghost use Rattle.std.specs.Prelude.{◌≡◌, pos, neg_ℤ, MatchResult};
-ghost use Rattle.register.specs.Faults.{refusal};
 ghost use Rattle.register.specs.State.{Unchanged, Opens, Pays};
 ghost use Rattle.register.specs.Answers.{opens, pays_in, pays_out, tells};
 
 use super::Register;
-use super::reads::moved;
 use crate::faults::{RegisterCause, RegisterFault};
-use book::{check_payment, check_portfolio};
+use book::{Payment, check_portfolio};
 use margin::Figures;
-
-fn refused(cause: RegisterCause) -> RegisterFault
-    ensures { result ≡ refusal cause }
-{
-    RegisterFault::State { cause, place: 0 }
-}
 
 impl Register {
     // Opens a portfolio, with no cash.
@@ -24,62 +16,52 @@ impl Register {
     {
         check_portfolio(portfolio, 0)?;
         let None = self.portfolios.get(portfolio) else {
-            return Err(refused(RegisterCause::PortfolioExists));
+            return Err(RegisterCause::PortfolioExists.into());
         };
         let Ok(()) = self.add(portfolio) else {
-            return Err(refused(RegisterCause::NoPlace));
+            return Err(RegisterCause::NoPlace.into());
         };
         Ok(())
     }
 
     // Pays cash in.
-    pub(crate) fn paying_in(
-        &mut self,
-        portfolio: u16,
-        currency: u16,
-        amount: u64,
-    ) -> Result<(), RegisterFault>
-        ensures answer { result ≡ pays_in self.old portfolio currency amount }
-        ensures tables { MatchResult result (λ _. Pays self.old portfolio currency (pos amount) self.new) (λ _. Unchanged self.old self.new) }
+    pub(crate) fn paying_in(&mut self, payment: Payment) -> Result<(), RegisterFault>
+        ensures answer { result ≡ pays_in self.old payment.portfolio payment.currency payment.amount }
+        ensures tables { MatchResult result (λ _. Pays self.old payment.portfolio payment.currency (pos payment.amount) self.new) (λ _. Unchanged self.old self.new) }
     {
-        check_payment(portfolio, currency, amount, 0)?;
-        let Some(row) = self.portfolios.get(portfolio) else {
-            return Err(refused(RegisterCause::NoPortfolio));
+        payment.check(0)?;
+        let Some(row) = self.portfolios.get(payment.portfolio) else {
+            return Err(RegisterCause::NoPortfolio.into());
         };
-        let Some(place) = self.place_of(currency) else {
-            return Err(refused(RegisterCause::CodeMissing));
+        let Some(place) = self.place_of(payment.currency) else {
+            return Err(RegisterCause::CodeMissing.into());
         };
-        let Some(cash) = moved(row.cash, place, amount as i64) else {
-            return Err(refused(RegisterCause::Gross));
+        let Some(after) = row.moved(place, payment.amount as i64) else {
+            return Err(RegisterCause::Gross.into());
         };
-        self.post(portfolio, cash);
+        self.post(after);
         Ok(())
     }
 
     // Pays cash out.
-    pub(crate) fn paying_out(
-        &mut self,
-        portfolio: u16,
-        currency: u16,
-        amount: u64,
-    ) -> Result<(), RegisterFault>
-        ensures answer { result ≡ pays_out self.old portfolio currency amount }
-        ensures tables { MatchResult result (λ _. Pays self.old portfolio currency (neg_ℤ (pos amount)) self.new) (λ _. Unchanged self.old self.new) }
+    pub(crate) fn paying_out(&mut self, payment: Payment) -> Result<(), RegisterFault>
+        ensures answer { result ≡ pays_out self.old payment.portfolio payment.currency payment.amount }
+        ensures tables { MatchResult result (λ _. Pays self.old payment.portfolio payment.currency (neg_ℤ (pos payment.amount)) self.new) (λ _. Unchanged self.old self.new) }
     {
-        check_payment(portfolio, currency, amount, 0)?;
-        let Some(row) = self.portfolios.get(portfolio) else {
-            return Err(refused(RegisterCause::NoPortfolio));
+        payment.check(0)?;
+        let Some(row) = self.portfolios.get(payment.portfolio) else {
+            return Err(RegisterCause::NoPortfolio.into());
         };
-        let Some(place) = self.place_of(currency) else {
-            return Err(refused(RegisterCause::CodeMissing));
+        let Some(place) = self.place_of(payment.currency) else {
+            return Err(RegisterCause::CodeMissing.into());
         };
-        let Some(cash) = moved(row.cash, place, -(amount as i64)) else {
-            return Err(refused(RegisterCause::Gross));
+        let Some(after) = row.moved(place, -(payment.amount as i64)) else {
+            return Err(RegisterCause::Gross.into());
         };
-        let false = self.is_worse(&row.cash, &cash) else {
-            return Err(refused(RegisterCause::WorstCase));
+        let false = self.is_worse(&row.cash, &after.cash) else {
+            return Err(RegisterCause::WorstCase.into());
         };
-        self.post(portfolio, cash);
+        self.post(after);
         Ok(())
     }
 
@@ -89,7 +71,7 @@ impl Register {
     {
         check_portfolio(portfolio, 0)?;
         let Some(row) = self.portfolios.get(portfolio) else {
-            return Err(refused(RegisterCause::NoPortfolio));
+            return Err(RegisterCause::NoPortfolio.into());
         };
         Ok(self.figures_of(&row.cash))
     }

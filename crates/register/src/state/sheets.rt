@@ -1,4 +1,5 @@
-// How a closed sheet opens the register, and how a later one is put in force. The table is to be as closing left it.
+// How a closed sheet opens the register, and how a later one is put in force. A closed sheet is plain numbers and its table
+// its caller's, so each call asks that the table is as closing left it.
 ghost use Rattle.std.specs.Prelude.{◌≡◌, min, not, [], ◌∷◌, length, IfOk, vec_len, MatchResult};
 ghost use Rattle.book.specs.Checks.{check, first_of};
 ghost use Rattle.keyed.specs.Tables.{Fresh};
@@ -43,15 +44,11 @@ fn begun(
 fn has_same_codes(ours: &[Currency], theirs: &[Currency]) -> bool
     ensures { result ≡ same_codes ours.now theirs.now }
 {
-    if ours.len() != theirs.len() {
-        return false;
-    }
-    for i in 0..ours.len() {
-        if ours[i].code != theirs[i].code {
-            return false;
-        }
-    }
-    true
+    ours.len() == theirs.len()
+        && ours
+            .iter()
+            .zip(theirs)
+            .all(|(ours, theirs)| ours.code == theirs.code)
 }
 
 // The refusal of a sheet whose currencies are not the register's.
@@ -61,10 +58,7 @@ fn fit(ours: &[Currency], theirs: &[Currency]) -> Result<(), SheetFault>
     if has_same_codes(ours, theirs) {
         return Ok(());
     }
-    Err(SheetFault::State {
-        cause: SheetCause::Unfit,
-        place: 0,
-    })
+    Err(SheetCause::Unfit.into())
 }
 
 // Writes the entries in the place of as many.

@@ -1,20 +1,24 @@
-use Rattle.std.proofs.Common.{◌≡◌, not, List, take, sym, ap, ◌∙◌, subst, arith}
+use Rattle.std.proofs.Common.{◌≡◌, ℕ, true, not, eqb, List, take, Ok, Err, is_some, Option, Result, MatchOption, sym, ap, ◌∙◌, subst, arith}
+use Rattle.std.specs.Result.{result_ok}
 use Rattle.std.proofs.lemmas.List.{take_all}
-use Rattle.keyed.specs.Rows.{Rising, Stands, Gap}
+use Rattle.keyed.specs.Rows.{Rising, Stands, Sought}
 use Rattle.margin.specs.declared.Currency.{Currency}
 use Rattle.margin.specs.Keys.{currency_code}
+use Rattle.margin.specs.Numbers.{the_first}
 use Rattle.register.specs.State.{currencies}
+use Rattle.register.specs.Answers.{missing}
 use Rattle.register.proofs.Currencies.{absent}
 use Rattle.register.proofs.state.Register.place_of.Goals as goal
 
-pub returns-in-Ok : goal.returns-in-Ok
-returns-in-Ok c =
-    let e : take c.len.result c.as_slice.result.now ≡ currencies c.args.self.now = take_all _ _ (omega arith) ∙ c.as_slice.ensures.value in
-    let up = subst (λ (cs : List Currency). Rising currency_code cs) (sym e) c.args.self.now.currencies_rise in
-    subst (λ (cs : List Currency). Stands currency_code cs c.args.code c.in-Ok.place) e (c.in-Ok.ensures.sought up)
+placed : (cs : List Currency) (k : ℕ) (a : Result ℕ ℕ) → Sought currency_code cs k a → MatchOption (result_ok a) (not (is_some (the_first (λ x. eqb k x.code) cs)) ≡ true) (λ i. Stands currency_code cs k i)
+placed cs k (Ok i) s = s
+placed cs k (Err i) g = ap not (absent cs k i g)
 
-pub returns-in-Err : goal.returns-in-Err
-returns-in-Err c =
-    let e : take c.len.result c.as_slice.result.now ≡ currencies c.args.self.now = take_all _ _ (omega arith) ∙ c.as_slice.ensures.value in
-    let up = subst (λ (cs : List Currency). Rising currency_code cs) (sym e) c.args.self.now.currencies_rise in
-    ap not (absent _ c.args.code _ (subst (λ (cs : List Currency). Gap currency_code cs c.args.code c.in-Err.field-0) e (c.in-Err.ensures.sought up)))
+pub returns : goal.returns
+returns c =
+    let r = c.args.self.now in
+    let k = c.args.code in
+    let e : take c.len.result c.deref.result.now ≡ currencies r = take_all _ _ (omega arith) ∙ c.deref.ensures.value in
+    let up = subst (λ (cs : List Currency). Rising currency_code cs) (sym e) r.currencies_rise in
+    let sought = subst (λ (cs : List Currency). Sought currency_code cs k c.find.result) e (c.find.ensures.sought up) in
+    subst (λ (o : Option ℕ). MatchOption o (missing r k ≡ true) (λ i. Stands currency_code (currencies r) k i)) (sym c.ok.ensures.value) (placed (currencies r) k c.find.result sought)

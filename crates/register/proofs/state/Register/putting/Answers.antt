@@ -24,7 +24,6 @@ invariant_of-self c =
       few = omega (arith, c.overwrite.ensures.len, c.args.self.now.few);
       currencies_rise = subst (λ (cs : List Currency). Rising currency_code cs) (sym e) c.requires.rising;
       complete = subst (λ (cs : List Currency). incomplete (cash_sheet cs) ≡ false) (sym e) c.requires.complete;
-      portfolios_rise = c.args.self.now.portfolios_rise;
     }
 
 pub returns : goal.returns

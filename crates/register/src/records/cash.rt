@@ -1,0 +1,27 @@
+// How the cash of a portfolio moves.
+ghost use Rattle.std.specs.Prelude.{◌≡◌, ◌<◌, ◌≤◌, pos, ◌+ℤ◌, IfSome, slice_index_or, unsigned_abs};
+ghost use Rattle.std.specs.Option.{option_map};
+ghost use Rattle.register.specs.Writes.{cash_of, moved_to};
+
+use super::Portfolio;
+
+const GROSS_LIMIT: u64 = 200_000_000_000;
+
+impl Portfolio {
+    // The portfolio with so much more at a place, unless it is over the limit there.
+    pub(crate) fn moved(self, place: usize, by: i64) -> Option<Portfolio>
+        requires place { place < 8 }
+        requires by { unsigned_abs by ≤ 200_000_000_000 }
+        ensures cash { option_map cash_of result ≡ moved_to self.cash place (slice_index_or self.cash place (pos 0) +ℤ by) }
+        ensures number { IfSome result (λ x. x.number ≡ self.number) }
+    {
+        let sum = self.cash[place] + by;
+        if sum.unsigned_abs() > GROSS_LIMIT {
+            return None;
+        }
+        let number = self.number;
+        let mut cash = self.cash;
+        cash[place] = sum;
+        Some(Portfolio { number, cash })
+    }
+}
