@@ -13,7 +13,7 @@ use Rattle.book.specs.Requests.{Request}
 use Rattle.register.specs.declared.faults.RegisterFault.{RegisterFault}
 use Rattle.register.specs.declared.state.Register.{Register}
 use Rattle.rules.specs.Histories.{History}
-use Rattle.desk.specs.declared.replies.Reply.{Reply}
+use Rattle.margin.specs.declared.Figures.{Figures}
 use Rattle.desk.specs.Service.{Lawful, next_of, ServesContent, Serves, Served, Begun, Runs}
 
 -- one field more
@@ -36,7 +36,7 @@ turn d m e is i x os new o l n h s =
     subst (λ (xs : List Entry). SoFar d xs (os ++ o ∷ []) e) (sym front) (λ u. (next_of m (h u).0 (seen (get_or is i x)).content, served_more d m e u (h u).0 (map seen (take i is)) os (seen (get_or is i x)) o (h u).1 s)))
 
 -- a lawful run stays one, field by field
-lawful_content : (d e : Desk) (p : ℕ) (c : Result Request FieldFault) (a : Result Reply RegisterFault) (u : Option History) → ServesContent d p c a e → Lawful d.register u → Lawful e.register (next_of d u c)
+lawful_content : (d e : Desk) (p : ℕ) (c : Result Request FieldFault) (a : Result (Option Figures) RegisterFault) (u : Option History) → ServesContent d p c a e → Lawful d.register u → Lawful e.register (next_of d u c)
 lawful_content d e p (Ok q) a u s l = s.2 u l
 lawful_content d e p (Err f) a u s l = subst (λ (y : Desk). Lawful y.register u) (sym s.1) l
 

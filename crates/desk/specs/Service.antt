@@ -24,39 +24,37 @@ use Rattle.register.specs.Runs.{said, said_figures, said_put, Run}
 use Rattle.rules.specs.Calls as calls
 use Rattle.rules.specs.Histories.{History, Places, opened_with, asked}
 use Rattle.desk.specs.declared.replies.Outcome.{Outcome}
-use Rattle.desk.specs.declared.replies.Reply.{Reply}
-use Rattle.desk.specs.declared.replies.Reply.TheVariants.{Done, Told}
 use Rattle.desk.specs.declared.service.Desk.{Desk}
 
 -- ---- the answer to a request
-abbrev pub done : Result (Unit {0}) RegisterFault → Result Reply RegisterFault
-done (Ok x) = Ok Done
+abbrev pub done : Result (Unit {0}) RegisterFault → Result (Option Figures) RegisterFault
+done (Ok x) = Ok None
 done (Err f) = Err f
 
-abbrev pub entered : Result (Unit {0}) SheetFault → Result Reply RegisterFault
-entered (Ok x) = Ok Done
+abbrev pub entered : Result (Unit {0}) SheetFault → Result (Option Figures) RegisterFault
+entered (Ok x) = Ok None
 entered (Err f) = Err (InSheet f)
 
-abbrev pub told : Result Figures RegisterFault → Result Reply RegisterFault
-told (Ok f) = Ok (Told f)
+abbrev pub told : Result Figures RegisterFault → Result (Option Figures) RegisterFault
+told (Ok f) = Ok (Some f)
 told (Err f) = Err f
 
 -- refusal 27 where no sheet is in force
-abbrev pub with_register : Option Register → (Register → Result Reply RegisterFault) → Result Reply RegisterFault
+abbrev pub with_register : Option Register → (Register → Result (Option Figures) RegisterFault) → Result (Option Figures) RegisterFault
 with_register None call = Err (InSheet (sheets.refusal NotInForce))
 with_register (Some r) call = call r
 
-abbrev pub put : Result (Unit {0}) (RegisterFault × ClosedSheet) → Result Reply RegisterFault
-put (Ok u) = Ok Done
+abbrev pub put : Result (Unit {0}) (RegisterFault × ClosedSheet) → Result (Option Figures) RegisterFault
+put (Ok u) = Ok None
 put (Err x) = Err x.0
 
 -- the first closed sheet opens the register, a later one is put in force
-abbrev pub closed : Option Register → List Currency → Result ClosedSheet (SheetFault × Draft) → Result Reply RegisterFault
+abbrev pub closed : Option Register → List Currency → Result ClosedSheet (SheetFault × Draft) → Result (Option Figures) RegisterFault
 closed o table (Err x) = Err (InSheet x.0)
-closed None table (Ok c) = Ok Done
+closed None table (Ok c) = Ok None
 closed (Some r) table (Ok c) = put (puts r c table)
 
-abbrev pub answer : Desk → Request → Result Reply RegisterFault
+abbrev pub answer : Desk → Request → Result (Option Figures) RegisterFault
 answer d (enter_currency c x) = entered (enters d.drafting.draft d.drafting.table c x)
 answer d put_in_force = closed d.register d.drafting.table (closes d.drafting.draft d.drafting.table)
 answer d (open_portfolio p) = with_register d.register (λ r. done (opens r p))
@@ -144,11 +142,11 @@ Carries d q e = (o : Option History) → Lawful d.register o → Lawful e.regist
 
 -- ---- a field, and a whole book
 -- a refusal has the place of its field
-abbrev pub placed : Result Reply RegisterFault → ℕ → Result Reply RegisterFault
+abbrev pub placed : Result (Option Figures) RegisterFault → ℕ → Result (Option Figures) RegisterFault
 placed (Ok x) p = Ok x
 placed (Err f) p = Err (fault_at f p)
 
-abbrev pub ServesContent : Desk → ℕ → Result Request FieldFault → Result Reply RegisterFault → Desk → Type 0
+abbrev pub ServesContent : Desk → ℕ → Result Request FieldFault → Result (Option Figures) RegisterFault → Desk → Type 0
 ServesContent d p (Ok q) a e = (a ≡ placed (answer d q) p) × Leaves d q e × Carries d q e
 ServesContent d p (Err f) a e = (a ≡ Err (InSheet (InField f))) × (e ≡ d)
 

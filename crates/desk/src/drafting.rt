@@ -1,4 +1,4 @@
-// The draft of the next sheet, with the table that goes with it.
+// The draft of the next sheet, with the table that goes with it: a fixed array, as a sheet has at most 8 currencies.
 ghost use Rattle.std.specs.Prelude.{◌≤◌, take};
 ghost use Rattle.keyed.specs.Rows.{Rising};
 ghost use Rattle.margin.specs.Keys.{currency_code};

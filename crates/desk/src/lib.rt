@@ -5,5 +5,5 @@ mod drafting;
 mod replies;
 mod service;
 
-pub use replies::{Outcome, Reply};
+pub use replies::Outcome;
 pub use service::runs::run;

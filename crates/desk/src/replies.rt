@@ -1,21 +1,16 @@
 // What the desk answers to a field.
-ghost use Rattle.std.specs.Prelude.{◌≡◌};
-ghost use Rattle.desk.specs.Replies.{outcome_number, outcome_figures};
+ghost use Rattle.std.specs.Prelude.{◌≡◌, Some};
+ghost use Rattle.desk.specs.Replies.{outcome_number, outcome_figures, outcome_text};
 
 use margin::Figures;
 use register::RegisterFault;
+use std::fmt;
 
-// What an accepted field is answered with.
-#[derive(Clone, Copy)]
-pub enum Reply {
-    Done,
-    Told(Figures),
-}
-
-#[derive(Clone, Copy)]
+// The tag of a field, and its answer: of one that is accepted, the figures where it asked for them.
+#[derive(Clone, Copy, Debug, PartialEq, Eq)]
 pub struct Outcome {
     pub tag: u8,
-    pub answer: Result<Reply, RegisterFault>,
+    pub answer: Result<Option<Figures>, RegisterFault>,
 }
 
 impl Outcome {
@@ -23,20 +18,27 @@ impl Outcome {
     pub fn number(&self) -> u8
         ensures { result ≡ outcome_number self.now }
     {
-        match &self.answer {
-            Ok(_) => 0,
-            Err(fault) => fault.number(),
-        }
+        self.answer.err().map_or(0, |fault| fault.number())
     }
 
     // The figures that the field asked for.
     pub fn figures(&self) -> Option<Figures>
         ensures { result ≡ outcome_figures self.now }
     {
-        match &self.answer {
-            Ok(Reply::Told(figures)) => Some(*figures),
-            Ok(Reply::Done) => None,
-            Err(_) => None,
+        self.answer.ok().flatten()
+    }
+}
+
+// The tag in base 16, the number of the answer, and the figures that the field asked for.
+impl fmt::Display for Outcome {
+    ghost output = { λ o. Some (outcome_text o) };
+
+    fn fmt<W: fmt::Write>(&self, f: &mut fmt::Formatter<W>) -> fmt::Result {
+        let tag = self.tag;
+        let number = self.number();
+        match self.figures() {
+            Some(figures) => write!(f, "{tag:02x} {number} {figures}"),
+            None => write!(f, "{tag:02x} {number}"),
         }
     }
 }

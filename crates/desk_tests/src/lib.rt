@@ -10,10 +10,7 @@ mod tests {
 
     // The number of the answer and its place; of an accepted field, 0 and 0.
     fn told(outcome: &Outcome) -> (u8, usize) {
-        let place = match &outcome.answer {
-            Ok(_) => 0,
-            Err(fault) => fault.place(),
-        };
+        let place = outcome.answer.err().map_or(0, |fault| fault.place());
         (outcome.number(), place)
     }
 
@@ -30,24 +27,20 @@ mod tests {
     // Cut at any byte, the whole fields are answered as ever, and the one that is cut meets 1.
     #[test]
     fn cut_at_every_byte(rt: HostRuntime) -> Result<(), Fail> {
-        for n in 0..53usize {
+        for n in 0..=FIRST.len() {
             let outcomes = run(rt.alloc(), &FIRST[0..n])?;
-            let mut whole = 0;
+            let mut left = outcomes.iter();
             let mut start = 0;
             for (end, answer) in ENDS {
                 if end <= n {
-                    assert!(rt; whole < outcomes.len());
-                    assert_eq!(rt; told(&outcomes[whole]).0, answer);
-                    whole += 1;
+                    assert_eq!(rt; left.next().map(|outcome| told(outcome).0), Some(answer));
                     start = end;
                 }
             }
             if start < n {
-                assert!(rt; whole < outcomes.len());
-                assert_eq!(rt; told(&outcomes[whole]), (1, start + 1));
-                whole += 1;
+                assert_eq!(rt; left.next().map(told), Some((1, start + 1)));
             }
-            assert_eq!(rt; outcomes.len(), whole);
+            assert!(rt; left.next().is_none());
         }
         Ok(())
     }
@@ -132,10 +125,7 @@ mod tests {
     }
 
     fn layer_of(outcome: &Outcome) -> Option<Layer> {
-        match &outcome.answer {
-            Ok(_) => None,
-            Err(fault) => Some(fault.layer()),
-        }
+        outcome.answer.err().map(|fault| fault.layer())
     }
 
     // An unknown tag is the field's, a call with no sheet in force the sheet's, a second opening the register's.
@@ -143,10 +133,10 @@ mod tests {
     fn refusals_with_their_layers(rt: HostRuntime) -> Result<(), Fail> {
         let outcomes = run(rt.alloc(), &FAULTS)?;
         assert!(rt; outcomes.len() > 29);
-        assert!(rt; matches!(layer_of(&outcomes[1]), Some(Layer::OfField)));
-        assert!(rt; matches!(layer_of(&outcomes[0]), Some(Layer::OfSheet)));
-        assert!(rt; matches!(layer_of(&outcomes[29]), Some(Layer::OfRegister)));
-        assert!(rt; matches!(layer_of(&outcomes[28]), None));
+        assert_eq!(rt; layer_of(&outcomes[1]), Some(Layer::OfField));
+        assert_eq!(rt; layer_of(&outcomes[0]), Some(Layer::OfSheet));
+        assert_eq!(rt; layer_of(&outcomes[29]), Some(Layer::OfRegister));
+        assert_eq!(rt; layer_of(&outcomes[28]), None);
         Ok(())
     }
 
@@ -154,14 +144,12 @@ mod tests {
     fn last_of(heap: Global, fields: usize, more: usize) -> Result<(usize, (u8, usize)), Fail> {
         let mut book = Vec::new(heap);
         for _ in 0..fields {
-            book.push(0x05)?;
-            book.push(0)?;
-            book.push(0)?;
+            book.extend_from_slice(&[0x05, 0, 0])?;
         }
         for _ in 0..more {
             book.push(0)?;
         }
-        let outcomes = run(heap, book.as_slice())?;
+        let outcomes = run(heap, &book)?;
         let Some(last) = outcomes.last() else {
             return Err(Fail::new("no outcome"));
         };
@@ -187,7 +175,7 @@ mod tests {
         for n in 1..66u8 {
             book.extend_from_slice(&[0x10, 0, 2, 0, n])?;
         }
-        let outcomes = run(rt.alloc(), book.as_slice())?;
+        let outcomes = run(rt.alloc(), &book)?;
         assert!(rt; outcomes.len() == 67);
         assert_eq!(rt; told(&outcomes[65]), (0, 0));
         assert_eq!(rt; told(&outcomes[66]), (22, 333));

@@ -17,11 +17,11 @@ impl Drafting {
         }
     }
 
-    pub(crate) fn enter_currency(&mut self, code: u16, fx: u32) -> Result<(), SheetFault>
-        ensures answer { result ≡ enters self.old.draft self.old.table code fx }
-        ensures tables { MatchResult result (λ _. EnteredIn self.old.draft self.old.table code fx self.new.draft self.new.table) (λ _. (self.new.draft ≡ self.old.draft) × (self.new.table ≡ self.old.table)) }
+    pub(crate) fn enter_currency(&mut self, currency: Currency) -> Result<(), SheetFault>
+        ensures answer { result ≡ enters self.old.draft self.old.table currency.code currency.fx }
+        ensures tables { MatchResult result (λ _. EnteredIn self.old.draft self.old.table currency.code currency.fx self.new.draft self.new.table) (λ _. (self.new.draft ≡ self.old.draft) × (self.new.table ≡ self.old.table)) }
     {
-        self.draft.enter_currency(&mut self.table, code, fx)
+        self.draft.enter_currency(&mut self.table, currency)
     }
 
     // The draft, with an empty one in its place.

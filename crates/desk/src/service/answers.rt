@@ -1,16 +1,17 @@
-// What the desk answers to each field. A call before a sheet is in force meets 27.
-ghost use Rattle.std.specs.Prelude.{◌≡◌, IfOk, Some, Ok};
+// What the desk answers to each field. A call before a sheet is in force meets 27. Each call asks for the register itself: a
+// function that took the call as a closure would want that call's contract again at the closure.
+ghost use Rattle.std.specs.Prelude.{◌≡◌, IfOk, Some, None, Ok};
 ghost use Rattle.rules.specs.Histories.{opened_with};
 ghost use Rattle.book.specs.Requests.{enter_currency, put_in_force, open_portfolio, pay_in, pay_out, figures, asked};
 ghost use Rattle.book.specs.Book.{seen};
 ghost use Rattle.sheet.specs.Drafts.{AsClosed};
-ghost use Rattle.desk.specs.declared.replies.Reply.TheVariants.{Done};
 ghost use Rattle.desk.specs.Service.{answer, Opened, Leaves, Carries, Lawful, room, sheet_of, Serves, Begun};
 
 use super::Desk;
 use crate::drafting::Drafting;
-use crate::replies::{Outcome, Reply};
-use book::{Item, Kind, eight, four, two};
+use crate::replies::Outcome;
+use book::{Item, Kind, Payment, number};
+use margin::{Currency, Figures};
 use register::{Register, RegisterFault};
 use sheet::{ClosedSheet, SheetCause, SheetFault};
 use std::alloc::{AllocError, Global};
@@ -42,7 +43,7 @@ impl Desk {
         drafting.discard();
     }
 
-    fn open_portfolio(&mut self, portfolio: u16) -> Result<Reply, RegisterFault>
+    fn open_portfolio(&mut self, portfolio: u16) -> Result<Option<Figures>, RegisterFault>
         ensures is { result ≡ answer self.old (open_portfolio portfolio) }
         ensures leaves { Leaves self.old (open_portfolio portfolio) self.new }
         ensures carries { Carries self.old (open_portfolio portfolio) self.new }
@@ -51,39 +52,34 @@ impl Desk {
             return Err(NOT_IN_FORCE);
         };
         register.open_portfolio(portfolio)?;
-        Ok(Reply::Done)
+        Ok(None)
     }
 
-    fn pay_in(&mut self, portfolio: u16, currency: u16, amount: u64) -> Result<Reply, RegisterFault>
-        ensures is { result ≡ answer self.old (pay_in portfolio currency amount) }
-        ensures leaves { Leaves self.old (pay_in portfolio currency amount) self.new }
-        ensures carries { Carries self.old (pay_in portfolio currency amount) self.new }
+    fn pay_in(&mut self, payment: Payment) -> Result<Option<Figures>, RegisterFault>
+        ensures is { result ≡ answer self.old (pay_in payment.portfolio payment.currency payment.amount) }
+        ensures leaves { Leaves self.old (pay_in payment.portfolio payment.currency payment.amount) self.new }
+        ensures carries { Carries self.old (pay_in payment.portfolio payment.currency payment.amount) self.new }
     {
         let Some(register) = &mut self.register else {
             return Err(NOT_IN_FORCE);
         };
-        register.pay_in(portfolio, currency, amount)?;
-        Ok(Reply::Done)
+        register.pay_in(payment)?;
+        Ok(None)
     }
 
-    fn pay_out(
-        &mut self,
-        portfolio: u16,
-        currency: u16,
-        amount: u64,
-    ) -> Result<Reply, RegisterFault>
-        ensures is { result ≡ answer self.old (pay_out portfolio currency amount) }
-        ensures leaves { Leaves self.old (pay_out portfolio currency amount) self.new }
-        ensures carries { Carries self.old (pay_out portfolio currency amount) self.new }
+    fn pay_out(&mut self, payment: Payment) -> Result<Option<Figures>, RegisterFault>
+        ensures is { result ≡ answer self.old (pay_out payment.portfolio payment.currency payment.amount) }
+        ensures leaves { Leaves self.old (pay_out payment.portfolio payment.currency payment.amount) self.new }
+        ensures carries { Carries self.old (pay_out payment.portfolio payment.currency payment.amount) self.new }
     {
         let Some(register) = &mut self.register else {
             return Err(NOT_IN_FORCE);
         };
-        register.pay_out(portfolio, currency, amount)?;
-        Ok(Reply::Done)
+        register.pay_out(payment)?;
+        Ok(None)
     }
 
-    fn figures(&self, portfolio: u16) -> Result<Reply, RegisterFault>
+    fn figures(&self, portfolio: u16) -> Result<Option<Figures>, RegisterFault>
         ensures is { result ≡ answer self.now (figures portfolio) }
         ensures carries { Carries self.now (figures portfolio) self.now }
     {
@@ -91,7 +87,7 @@ impl Desk {
             return Err(NOT_IN_FORCE);
         };
         let figures = register.figures(portfolio)?;
-        Ok(Reply::Told(figures))
+        Ok(Some(figures))
     }
 
     // Opens the register by a closed sheet.
@@ -99,14 +95,14 @@ impl Desk {
         &mut self,
         heap: Global,
         closed: ClosedSheet,
-    ) -> Result<Result<Reply, RegisterFault>, AllocError>
+    ) -> Result<Result<Option<Figures>, RegisterFault>, AllocError>
         requires { AsClosed closed self.old.drafting.table }
-        ensures { IfOk result (λ a. (a ≡ Ok Done) × Opened self.old closed self.new × Lawful self.new.register (Some (opened_with (sheet_of closed self.old.drafting.table) room))) }
+        ensures { IfOk result (λ a. (a ≡ Ok None) × Opened self.old closed self.new × Lawful self.new.register (Some (opened_with (sheet_of closed self.old.drafting.table) room))) }
     {
         match Register::begin(heap, closed, &self.drafting.table, PLACES) {
             Ok(register) => {
                 self.register = Some(register);
-                Ok(Ok(Reply::Done))
+                Ok(Ok(None))
             }
             Err((error, closed)) => {
                 closed.discard();
@@ -117,7 +113,10 @@ impl Desk {
 
     // Closes the draft, and opens the register by the closed sheet or puts it in force. What is refused is discarded, and an
     // empty draft begins.
-    fn put_in_force(&mut self, heap: Global) -> Result<Result<Reply, RegisterFault>, AllocError>
+    fn put_in_force(
+        &mut self,
+        heap: Global,
+    ) -> Result<Result<Option<Figures>, RegisterFault>, AllocError>
         ensures { IfOk result (λ a. (a ≡ answer self.old put_in_force) × Leaves self.old put_in_force self.new × Carries self.old put_in_force self.new) }
     {
         let draft = self.drafting.take();
@@ -132,7 +131,7 @@ impl Desk {
             return self.open_register(heap, closed);
         };
         match register.put_in_force(closed, &self.drafting.table) {
-            Ok(()) => Ok(Ok(Reply::Done)),
+            Ok(()) => Ok(Ok(None)),
             Err((fault, closed)) => {
                 closed.discard();
                 Ok(Err(fault))
@@ -140,34 +139,33 @@ impl Desk {
         }
     }
 
-    fn enter_currency(&mut self, code: u16, fx: u32) -> Result<Reply, RegisterFault>
-        ensures is { result ≡ answer self.old (enter_currency code fx) }
-        ensures leaves { Leaves self.old (enter_currency code fx) self.new }
-        ensures carries { Carries self.old (enter_currency code fx) self.new }
+    fn enter_currency(&mut self, currency: Currency) -> Result<Option<Figures>, RegisterFault>
+        ensures is { result ≡ answer self.old (enter_currency currency.code currency.fx) }
+        ensures leaves { Leaves self.old (enter_currency currency.code currency.fx) self.new }
+        ensures carries { Carries self.old (enter_currency currency.code currency.fx) self.new }
     {
-        self.drafting.enter_currency(code, fx)?;
-        Ok(Reply::Done)
+        self.drafting.enter_currency(currency)?;
+        Ok(None)
     }
 
     // What a field of its kind asks, asked.
-    fn ask(&mut self, heap: Global, kind: &Kind) -> Result<Result<Reply, RegisterFault>, AllocError>
+    fn ask(
+        &mut self,
+        heap: Global,
+        kind: &Kind,
+    ) -> Result<Result<Option<Figures>, RegisterFault>, AllocError>
         ensures { IfOk result (λ a. (a ≡ answer self.old (asked kind.now)) × Leaves self.old (asked kind.now) self.new × Carries self.old (asked kind.now) self.new) }
     {
-        match kind {
-            Kind::Currency { code, fx } => Ok(self.enter_currency(two(code), four(fx))),
+        match *kind {
+            Kind::Currency { code, fx } => Ok(self.enter_currency(Currency {
+                code: number(code),
+                fx: number(fx),
+            })),
             Kind::PutInForce => self.put_in_force(heap),
-            Kind::Open { portfolio } => Ok(self.open_portfolio(two(portfolio))),
-            Kind::PayIn(payment) => Ok(self.pay_in(
-                two(payment.portfolio),
-                two(payment.currency),
-                eight(payment.amount),
-            )),
-            Kind::PayOut(payment) => Ok(self.pay_out(
-                two(payment.portfolio),
-                two(payment.currency),
-                eight(payment.amount),
-            )),
-            Kind::Figures { portfolio } => Ok(self.figures(two(portfolio))),
+            Kind::Open { portfolio } => Ok(self.open_portfolio(number(portfolio))),
+            Kind::PayIn(payment) => Ok(self.pay_in(Payment::from(payment))),
+            Kind::PayOut(payment) => Ok(self.pay_out(Payment::from(payment))),
+            Kind::Figures { portfolio } => Ok(self.figures(number(portfolio))),
         }
     }
 
@@ -183,10 +181,9 @@ impl Desk {
                 return Ok(Outcome { tag, answer });
             }
         };
-        let answer = match self.ask(heap, &field.kind)? {
-            Ok(reply) => Ok(reply),
-            Err(fault) => Err(fault.at(field.place)),
-        };
+        let answer = self
+            .ask(heap, &field.kind)?
+            .map_err(|fault| fault.at(field.place));
         Ok(Outcome { tag, answer })
     }
 }
