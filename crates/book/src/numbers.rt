@@ -1,7 +1,8 @@
-// The number that bytes spell, the highest first; the type of the result says how many bytes there are.
+// The number that bytes spell, the highest first.
 ghost use Rattle.std.specs.Prelude.{◌≡◌, ℕ, List};
 ghost use Rattle.book.specs.Numbers.{number};
 
+// A number of as many bytes as its type has.
 pub trait Spelled: Copy {
     type Bytes;
 
@@ -49,6 +50,7 @@ impl Spelled for u64 {
     }
 }
 
+// The type of the result says how many bytes there are.
 pub fn number<T: Spelled>(bytes: &T::Bytes) -> T
     ensures { T.value_of result ≡ number (T.bytes_of bytes.now) }
 {

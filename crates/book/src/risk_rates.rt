@@ -42,14 +42,12 @@ impl SteppedRate {
         ensures { result ≡ ranged (no_rated_code self.now.code || no_steps self.now.s1 self.now.s2 self.now.s3 || no_limits self.now.k1 self.now.k2) place }
     {
         ranged(
-            not_a_rated_code(self.code) || self.not_steps() || self.k1 > self.k2,
+            not_a_rated_code(self.code)
+                || self.s1 > self.s2
+                || self.s2 > self.s3
+                || not_a_risk_rate(self.s3)
+                || self.k1 > self.k2,
             place,
         )
-    }
-
-    fn not_steps(&self) -> bool
-        ensures { result ≡ no_steps self.now.s1 self.now.s2 self.now.s3 }
-    {
-        self.s1 > self.s2 || self.s2 > self.s3 || not_a_risk_rate(self.s3)
     }
 }
