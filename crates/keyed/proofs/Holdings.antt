@@ -1,6 +1,7 @@
 -- What a table holds after each of its methods.
-use Rattle.std.proofs.Common.{◌≡◌, ℕ, true, List, [], ◌∷◌, get_or, is_some, Some, None, Ok, Err, Option, Result, sym, refl, ap, ◌∙◌, subst, arith}
+use Rattle.std.proofs.Common.{◌≡◌, ℕ, true, List, [], ◌∷◌, ◌<◌, length, get_or, is_some, Some, None, Ok, Err, Option, Result, sym, refl, ap, ◌∙◌, subst, arith}
 use Rattle.std.specs.Result.{result_ok}
+use Rattle.std.proofs.lemmas.List.{get_or_read}
 use Rattle.keyed.specs.declared.table.Table.{Table}
 use Rattle.keyed.specs.Rows.{Rising, lookup, Stands, Sought, put}
 use Rattle.keyed.specs.Laws.{Under, Changes}
@@ -17,6 +18,10 @@ module _ {R : Type 0} (key : R → ℕ) where
   -- the record at a key's place is the one that a look-up finds
   pub standing_is : (xs : List R) (q at : ℕ) (x : R) → Rising key xs → Stands key xs q at → x ≡ get_or xs at x → Some x ≡ lookup key xs q
   standing_is xs q at x up s e = ap Some e ∙ sym (lookup_stands key xs q at x up s)
+
+  -- the key of the record at a place stands there
+  pub stands : (xs : List R) (at : ℕ) (x : R) → at < length xs → x ≡ get_or xs at x → Stands key xs (key x) at
+  stands xs at x l e = record { within = l; here = λ d. sym (ap key (get_or_read xs at x l e d)) }
 
   some_stands : (xs : List R) (q at : ℕ) → Rising key xs → Stands key xs q at → is_some (lookup key xs q) ≡ true
   some_stands [] q at up s = absurd (omega (arith, s.within))

@@ -5,7 +5,6 @@ pub mod Lookups
 pub mod Puts
 pub mod Changes
 pub mod Ranges
-pub mod Counts
 pub mod Holdings
 pub mod Reputs
 pub mod Reordered

@@ -4,7 +4,8 @@ ghost use Rattle.std.specs.Ordering.{nat_cmp};
 
 use std::cmp::Ordering;
 
-// What a record is found by. Keys compare as their ranks do, which no code computes.
+// What a record is found by. Keys compare as their ranks do, which no code computes; no law of `Ord` speaks of ranks, so
+// each impl states that its own `cmp` does.
 pub trait Key: Copy {
     ghost rank: { Self → ℕ };
 

@@ -5,6 +5,7 @@ ghost use Rattle.keyed.specs.Places.{records, serving, Vacant, Appends};
 use super::Places;
 use crate::slices::{add, remove};
 use crate::table::Refusal;
+use std::mem::replace;
 
 impl<R: Copy> Places<R> {
     // Places with no record. Of them at most `most` serve.
@@ -88,22 +89,26 @@ impl<R: Copy> Places<R> {
         self.used += 1;
     }
 
-    // Puts a record in the place of another.
-    pub(crate) fn write(&mut self, at: usize, row: R)
+    // Puts a record in the place of another, and gives that one back.
+    pub(crate) fn write(&mut self, at: usize, row: R) -> R
         requires { at < length (records self.old) }
+        ensures was { result ≡ slice_index_or (records self.old) at result }
         ensures records { records self.new ≡ slice_set (records self.old) at row }
         ensures serving { serving self.new ≡ serving self.old }
     {
-        self.places[at] = row;
+        replace(&mut self.places[at], row)
     }
 
     // Takes the record at a place out, and moves those above it one place down.
-    pub(crate) fn take_out(&mut self, at: usize)
+    pub(crate) fn take_out(&mut self, at: usize) -> R
         requires { at < length (records self.old) }
+        ensures was { result ≡ slice_index_or (records self.old) at result }
         ensures records { records self.new ≡ remove (records self.old) at }
         ensures serving { serving self.new ≡ serving self.old }
     {
+        let row = self.row(at);
         remove(self.places.as_mut_slice(), self.used, at);
         self.used -= 1;
+        row
     }
 }

@@ -92,7 +92,7 @@ impl<R: Keyed + Copy> Table<R> {
         ensures sets { Sets R.Keyed.key self.old self.new (R.Key.Key.rank key) None }
     {
         let at = self.place(key).ok()?;
-        Some(self.take_out(key, at))
+        Some(self.take_out(at))
     }
 
     // Puts at the key what is given: a record that has it, or none.
@@ -159,19 +159,16 @@ impl<R: Keyed + Copy> Table<R> {
         ensures was { Some result ≡ holds R.Keyed.key self.old (R.Keyed.key row) }
         ensures sets { Sets R.Keyed.key self.old self.new (R.Keyed.key row) (Some row) }
     {
-        let old = self.row(at);
-        self.rows.write(at, row);
-        old
+        self.rows.write(at, row)
     }
 
-    // Takes out the record that stands at the key's place.
-    fn take_out(&mut self, _key: R::Key, at: usize) -> R
-        requires { Stands R.Keyed.key (entries self.old) (R.Key.Key.rank _key) at }
-        ensures was { Some result ≡ holds R.Keyed.key self.old (R.Key.Key.rank _key) }
-        ensures sets { Sets R.Keyed.key self.old self.new (R.Key.Key.rank _key) None }
+    // Takes the record at a place out.
+    fn take_out(&mut self, at: usize) -> R
+        requires { at < length (entries self.old) }
+        ensures row { result ≡ slice_index_or (entries self.old) at result }
+        ensures was { Some result ≡ holds R.Keyed.key self.old (R.Keyed.key result) }
+        ensures sets { Sets R.Keyed.key self.old self.new (R.Keyed.key result) None }
     {
-        let old = self.row(at);
-        self.rows.take_out(at);
-        old
+        self.rows.take_out(at)
     }
 }

@@ -8,6 +8,6 @@ returns g c =
     let key = g.R.Keyed.key in
     let up = c.args.self.now.rising in
     record {
-      was = standing_is key _ _ _ _ up c.requires c.row-old.ensures;
+      was = standing_is key _ _ _ _ up c.requires c.write.ensures.was;
       sets = sets key c.args.self.now _ _ (Some c.args.row) up refl (c.write.ensures.records ∙ replaced_is key _ _ _ up c.requires) c.write.ensures.serving;
     }
