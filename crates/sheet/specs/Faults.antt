@@ -36,7 +36,7 @@ out_of_range = Field (fault Range 0)
 abbrev pub refusal : SheetCause → SheetFault
 refusal c = State c 0
 
--- a table's refusal of an entry, as a sheet's
-abbrev pub refused : Refusal → SheetFault
-refused Taken = refusal Entered
-refused Brim = refusal Full
+-- a table's refusal of an entry
+abbrev pub of_table : Refusal → SheetFault
+of_table Taken = refusal Entered
+of_table Brim = refusal Full

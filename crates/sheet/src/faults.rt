@@ -1,12 +1,12 @@
 // What refuses an entry, a closing or a putting in force. It holds a field's fault whole.
 ghost use Rattle.std.specs.Prelude.{◌≡◌};
 ghost use Rattle.sheet.specs.declared.faults.SheetFault.TheVariants.{Field as InField};
-ghost use Rattle.sheet.specs.Faults.{refusal, refused, sheet_number, sheet_place, sheet_at};
+ghost use Rattle.sheet.specs.Faults.{refusal, of_table, sheet_number, sheet_place, sheet_at};
 
 use book::FieldFault;
 use keyed::Refusal;
 
-// Each cause under its number.
+// The causes, with their numbers.
 #[derive(Clone, Copy, Debug, PartialEq, Eq)]
 pub enum SheetCause {
     // the code is in the draft already
@@ -35,6 +35,7 @@ impl From<FieldFault> for SheetFault {
     }
 }
 
+// The fault of a call without a book.
 impl From<SheetCause> for SheetFault {
     ghost from_gives = { λ c r. r ≡ refusal c };
 
@@ -45,7 +46,7 @@ impl From<SheetCause> for SheetFault {
 
 // What a table's refusal of an entry means for the sheet.
 impl From<Refusal> for SheetFault {
-    ghost from_gives = { λ t r. r ≡ refused t };
+    ghost from_gives = { λ t r. r ≡ of_table t };
 
     fn from(refusal: Refusal) -> SheetFault {
         match refusal {

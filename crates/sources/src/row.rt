@@ -18,12 +18,13 @@ pub trait RateRow: Keyed<Key = u16> + Copy {
 
     ghost MOST: { ℕ };
 
+    // The pieces of a rate.
     ghost pieces: { Self → List margin.Piece };
 
     // What the numbers say, and whether one is outside its range.
     ghost says: { Self.Rate → Said };
 
-    // What stands in a place that is free. No rate is entered for code 0.
+    // What stands in a free place. No rate is entered for code 0.
     fn blank() -> Self
         ensures { Self.Keyed.key result ≡ 0 };
 

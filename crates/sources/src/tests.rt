@@ -37,14 +37,15 @@ fn count_stepped(rates: &SteppedRates, code: u16) -> usize
     rates.count(code)
 }
 
-fn of_code(cause: SheetCause) -> Result<(), SheetFault> {
-    Err(cause.into())
-}
-
 const OUT_OF_RANGE: SheetFault = SheetFault::Field(FieldFault {
     cause: FieldCause::Range,
     place: 0,
 });
+
+const ENTERED: SheetFault = SheetFault::State {
+    cause: SheetCause::Entered,
+    place: 0,
+};
 
 #[test]
 fn posted_rates(rt: HostRuntime) -> Result<(), Fail> {
@@ -55,10 +56,7 @@ fn posted_rates(rt: HostRuntime) -> Result<(), Fail> {
         minus: 2_500,
     };
     assert_eq!(rt; enter_posted(&mut rates, rate), Ok(()));
-    assert_eq!(rt;
-        enter_posted(&mut rates, rate),
-        of_code(SheetCause::Entered)
-    );
+    assert_eq!(rt; enter_posted(&mut rates, rate), Err(ENTERED));
     let rouble = PostedRate { code: 643, ..rate };
     assert_eq!(rt; enter_posted(&mut rates, rouble), Err(OUT_OF_RANGE));
     let pieces = [(1, 8_500), (2, 12_500)];
@@ -88,10 +86,7 @@ fn stepped_rates(rt: HostRuntime) -> Result<(), Fail> {
         k2: 7,
     };
     assert_eq!(rt; enter_stepped(&mut rates, rate), Ok(()));
-    assert_eq!(rt;
-        enter_stepped(&mut rates, rate),
-        of_code(SheetCause::Entered)
-    );
+    assert_eq!(rt; enter_stepped(&mut rates, rate), Err(ENTERED));
     let falling = SteppedRate {
         code: 978,
         k1: 8,
