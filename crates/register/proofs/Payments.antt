@@ -172,9 +172,14 @@ module _ (r : Register) (p c i : ℕ) (x : Portfolio) (there : portfolio r p ≡
     pub out_over : over (get_or x.cash i (pos 0) +ℤ neg_ℤ (pos a)) ≡ true → Err (refusal Gross) ≡ pays_out r p c a
     out_over o = past_three _ _ (fails _ (refusal Gross) _ (over_is (neg_ℤ (pos a)) ∙ o))
 
-    module _ (o : over (get_or x.cash i (pos 0) +ℤ neg_ℤ (pos a)) ≡ false) (b : Bool) (judged : b ≡ worsens (in_force r) (cash_holding (cash_by (currencies r) x.cash)) (cash_holding (cash_by (currencies r) (set x.cash i (get_or x.cash i (pos 0) +ℤ neg_ℤ (pos a)))))) where
+    -- b judges the cash l
+    module _ (l : List ℤ) (moved : (over (get_or x.cash i (pos 0) +ℤ neg_ℤ (pos a)) ≡ false) × (l ≡ set x.cash i (get_or x.cash i (pos 0) +ℤ neg_ℤ (pos a)))) (b : Bool)
+        (judged : b ≡ worsens (in_force r) (cash_holding (cash_by (currencies r) x.cash)) (cash_holding (cash_by (currencies r) l))) where
+      worse : worsens (in_force r) (holding r p) (with_paid r p c (neg_ℤ (pos a))) ≡ b
+      worse = sym (worse_is (neg_ℤ (pos a))) ∙ sym (judged ∙ ap (λ (zs : List ℤ). worsens (in_force r) (cash_holding (cash_by (currencies r) x.cash)) (cash_holding (cash_by (currencies r) zs))) moved.1)
+
       pub out_worse : b ≡ true → Err (refusal WorstCase) ≡ pays_out r p c a
-      out_worse t = past_three _ _ (passes _ (refusal Gross) _ _ (over_is (neg_ℤ (pos a)) ∙ o) (fails _ (refusal WorstCase) _ (sym (worse_is (neg_ℤ (pos a))) ∙ sym judged ∙ t)))
+      out_worse t = past_three _ _ (passes _ (refusal Gross) _ _ (over_is (neg_ℤ (pos a)) ∙ moved.0) (fails _ (refusal WorstCase) _ (worse ∙ t)))
 
       pub out_done : b ≡ false → Ok tt ≡ pays_out r p c a
-      out_done f = past_three _ _ (passes _ (refusal Gross) _ _ (over_is (neg_ℤ (pos a)) ∙ o) (passes _ (refusal WorstCase) _ _ (sym (worse_is (neg_ℤ (pos a))) ∙ sym judged ∙ f) refl))
+      out_done f = past_three _ _ (passes _ (refusal Gross) _ _ (over_is (neg_ℤ (pos a)) ∙ moved.0) (passes _ (refusal WorstCase) _ _ (worse ∙ f) refl))

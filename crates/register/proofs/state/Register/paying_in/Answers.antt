@@ -1,20 +1,17 @@
-use Rattle.std.proofs.Common.{◌≡◌, ◌≤◌, length, pos, Err, sym, refl, ap, ◌∙◌, w64, to_z, rules}
+use Rattle.std.proofs.Common.{◌≡◌, ◌≤◌, length, pos, Err, sym, ap, ◌∙◌, w64, to_z, rules}
 use Rattle.book.proofs.Refusals.{not_refused}
 use Rattle.register.specs.State.{currencies}
 use Rattle.register.proofs.Store.{written_as}
 use Rattle.register.proofs.Payments.{not_moved, is_moved, pays, in_over, in_done}
 use Rattle.register.proofs.state.Register.paying_in.Goals as goal
 
-pub returns-in_default-moved : goal.returns-in_default-moved
-returns-in_default-moved c =
+pub returns-in_default-moved-clause-answer : goal.returns-in_default-moved-clause-answer
+returns-in_default-moved-clause-answer c =
     let i = c.in-Some-place_of.place in
     let long : length (currencies c.args.self.now) ≤ length c.in-Some.row.cash = search rules in
     let is : to_z w64 c.args.payment.amount ≡ pos c.args.payment.amount = search rules in
     let over = not_moved c.in-Some.row.cash i _ (pos c.args.payment.amount) is c.in_default-moved.ensures.cash in
-    record {
-      answer = ap Err c.into-in_default-moved.ensures ∙ in_over c.args.self.now _ _ i c.in-Some.row (sym c.in-Some.ensures.value) c.in-Some-place_of.ensures long c.args.payment.amount (not_refused _ 0 _ c.in_ok-check.ensures) over;
-      tables = record { currencies = refl; portfolios = refl };
-    }
+    ap Err c.into-in_default-moved.ensures ∙ in_over c.args.self.now _ _ i c.in-Some.row (sym c.in-Some.ensures.value) c.in-Some-place_of.ensures long c.args.payment.amount (not_refused _ 0 _ c.in_ok-check.ensures) over
 
 pub returns : goal.returns
 returns c =
