@@ -36,17 +36,20 @@ module _ (f : Currency → ℤ → ℤ) where
   -- a turn of a loop over currencies and amounts side by side, and its end
   module _ (cs : List Currency) (zs : List ℤ) (xs : List (Bor Currency × Bor ℤ)) (s t u : Zip (Iter Currency) (Iter ℤ)) (r : Option (Bor Currency × Bor ℤ)) (first : iter_rest (zip_first s) ≡ cs) (second : iter_rest (zip_second s) ≡ zs) (y : Yields (zips fronts fronts) s xs t) (step : zips fronts fronts t r u) where
     pub by_place_turn : (p : Bor Currency × Bor ℤ) → r ≡ Some p →
-        (by_place f (take (length (xs ++ p ∷ [])) cs) zs ≡ by_place f (take (length xs) cs) zs +ℤ f p.0.now p.1.now) × (length xs < length zs)
+        (by_place f (take (length (xs ++ p ∷ [])) cs) zs ≡ by_place f (take (length xs) cs) zs +ℤ f p.0.now p.1.now) × (length xs < length cs) × (length xs < length zs)
     by_place_turn p is =
         let at = zip_turn cs zs xs s t u r first second y p is step in (
           ap (λ n. by_place f (take n cs) zs) (length-append xs (p ∷ []))
               ∙ by_place_more cs zs (length xs) p.0.now at.0 at.1
               ∙ ap₂ (λ c z. by_place f (take (length xs) cs) zs +ℤ f c z) (sym (at.2 p.0.now)) (sym (at.3 (pos 0))),
+          at.0,
           at.1,
         )
 
-    pub by_place_end : r ≡ None → length cs ≤ length zs → by_place f (take (length xs) cs) zs ≡ by_place f cs zs
-    by_place_end is room = ap (λ ds. by_place f ds zs) (take_all (length xs) cs (omega (arith, zip_end cs zs xs s t u r first second y is step)))
+    pub by_place_end : r ≡ None → length cs ≤ length zs → (by_place f (take (length xs) cs) zs ≡ by_place f cs zs) × (length xs ≤ length cs)
+    by_place_end is room =
+        let end = zip_end cs zs xs s t u r first second y is step in
+        (ap (λ ds. by_place f ds zs) (take_all (length xs) cs (omega arith)), omega arith)
 
 -- a currency found at another code is not found at this one
 apart_from : (f : Currency → ℤ → ℤ) (k : ℕ) (z : ℤ) (g : ℕ → ℤ) (cs : List Currency) → AllByRecursion (λ c. eqb k c.code ≡ false) cs →

@@ -1,7 +1,6 @@
 -- The gross of a line and of a currency.
-use Rattle.std.proofs.Common.{◌≡◌, ℕ, ◌+◌, ◌*◌, ◌<◌, max, Bool, true, false, cond, eqb, List, [], ◌∷◌, ◌++◌, length, get_or, take, ℤ, pos, ◌+ℤ◌, nat_abs, Some, None, filter, Option, sym, refl, ap, ◌∙◌, ap₂, arith}
-use Rattle.std.proofs.lemmas.List.Elements.{filter_more}
-use Rattle.std.proofs.lemmas.List.{append-nil}
+use Rattle.std.proofs.Common.{◌≡◌, ℕ, ◌+◌, ◌*◌, max, Bool, true, false, cond, eqb, List, [], ◌∷◌, map, ℤ, pos, ◌+ℤ◌, nat_abs, Some, None, filter, Option, sym, refl, ap, ◌∙◌, ap₂, arith}
+use Rattle.std.specs.List.{fold}
 use Rattle.keyed.specs.Rows.{Rising, lookup}
 use Rattle.margin.specs.declared.Instrument.{Instrument}
 use Rattle.margin.specs.declared.Order.{Order}
@@ -20,18 +19,14 @@ use Rattle.valuation.specs.Grosses.{gross_of, count_of, gross_in}
 use Rattle.valuation.proofs.Joins.{lines_join, rising_apart}
 use Rattle.valuation.proofs.Parts.{count_alike}
 
--- ---- the highest price so far
-highest_last : (p : ℕ) (os : List Order) (o : Order) → highest p (os ++ o ∷ []) ≡ max o.price (highest p os)
-highest_last p [] o = refl
-highest_last p (x ∷ os) o = omega (arith, highest_last p os o)
+-- ---- the highest price, kept one after another
+fold_max : (a b : ℕ) (os : List Order) → fold (λ x y. max x y) (max b a) (map (λ o. o.price) os) ≡ max b (fold (λ x y. max x y) a (map (λ o. o.price) os))
+fold_max a b [] = refl
+fold_max a b (o ∷ os) = let e : max (max b a) o.price ≡ max b (max a o.price) = omega arith in ap (λ n. fold (λ x y. max x y) n (map (λ o. o.price) os)) e ∙ fold_max (max a o.price) b os
 
-highest_one : (b : Bool) (p : ℕ) (os : List Order) (o : Order) → highest p (os ++ cond b (o ∷ []) []) ≡ max (cond b o.price 0) (highest p os)
-highest_one true p os o = highest_last p os o
-highest_one false p os o = ap (highest p) (append-nil os) ∙ omega arith
-
-pub highest_more : (code price : ℕ) (os : List Order) (i : ℕ) (d : Order) → i < length os →
-    highest price (filter (on code) (take (i + 1) os)) ≡ max (cond (on code (get_or os i d)) (get_or os i d).price 0) (highest price (filter (on code) (take i os)))
-highest_more code price os i d h = ap (highest price) (filter_more (on code) os i d h) ∙ highest_one (on code (get_or os i d)) price (filter (on code) (take i os)) (get_or os i d)
+pub highest_fold : (p : ℕ) (os : List Order) → fold (λ x y. max x y) p (map (λ o. o.price) os) ≡ highest p os
+highest_fold p [] = refl
+highest_fold p (o ∷ os) = let e : max p o.price ≡ max o.price p = omega arith in ap (λ n. fold (λ x y. max x y) n (map (λ o. o.price) os)) e ∙ fold_max p o.price os ∙ ap (max o.price) (highest_fold p os)
 
 -- the part of the orders has all the line's own
 pub line_gross : (i : Instrument) (q : ℤ) (part os : List Order) (units high : ℕ) → filter (on i.code) part ≡ filter (on i.code) os →

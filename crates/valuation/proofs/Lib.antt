@@ -6,3 +6,4 @@ mod Values
 mod Joins
 mod Equities
 mod Grosses
+mod Found

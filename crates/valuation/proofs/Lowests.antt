@@ -1,14 +1,14 @@
 -- A loop that keeps the lowest value so far, and the floor of the lowest.
-use Rattle.std.proofs.Common.{◌≡◌, ℕ, zero, suc, ◌+◌, ◌*◌, ◌<◌, ◌≤◌, Bool, true, false, cond, List, [], ◌∷◌, length, drop, ℤ, pos, negsuc, nat_abs, Some, None, Option, refl, ap, ◌∙◌, add-one, arith}
+use Rattle.std.proofs.Common.{◌≡◌, ℕ, zero, suc, ◌-◌, ◌*◌, ◌<◌, ◌≤◌, Bool, true, false, cond, List, [], ◌∷◌, length, drop, ℤ, pos, negsuc, nat_abs, Some, None, Option, sym, refl, ap, ◌∙◌, subst, ◌+◌, arith}
 use Rattle.std.proofs.lemmas.List.{at_drop_all}
 use Rattle.std.proofs.lemmas.Int.{ints, clamps, by_lt_z}
-use Rattle.std.specs.List.{slice_get, AllByRecursion}
+use Rattle.std.specs.List.{slice_get}
 use Rattle.std.specs.Int.{int_min}
 use Rattle.std.specs.Option.{option_map}
 use Rattle.rates.specs.Pieces.{from_one}
 use Rattle.margin.specs.Numbers.{down, least}
 use Rattle.margin.proofs.Integers.{floor_is}
-use Rattle.valuation.specs.Raw.{lower, lowest, floored, Small}
+use Rattle.valuation.specs.Raw.{lower, lowest, floored, Small, reach}
 
 lower_none : (a : Option ℤ) → lower a None ≡ a
 lower_none None = refl
@@ -27,10 +27,16 @@ module _ {X : Type 0} (f : X → ℤ) where
   lowest_at (p ∷ ps) zero = refl
   lowest_at (p ∷ ps) (suc j) = lowest_at ps j
 
-  -- a turn of the loop: what the lowest so far and the rest come to stays
-  pub lower_turn : (ps : List X) (i : ℕ) (best next new all : Option ℤ) → next ≡ option_map f (from_one ps (i + 1)) → new ≡ lower best next → lower best (lowest f (drop i ps)) ≡ all → lower new (lowest f (drop (i + 1) ps)) ≡ all
+  lower_turn : (ps : List X) (i : ℕ) (best next new all : Option ℤ) → next ≡ option_map f (slice_get ps i) → new ≡ lower best next → lower best (lowest f (drop i ps)) ≡ all → lower new (lowest f (drop (suc i) ps)) ≡ all
   lower_turn ps i best next new all is made inv =
-      rw add-one (ap (λ o. lower o (lowest f (drop (suc i) ps))) (made ∙ ap (lower best) (is ∙ ap (λ k. option_map f (from_one ps k)) (add-one i))) ∙ lower_assoc best (option_map f (slice_get ps i)) (lowest f (drop (suc i) ps)) ∙ ap (lower best) (lowest_at ps i) ∙ inv)
+      ap (λ o. lower o (lowest f (drop (suc i) ps))) (made ∙ ap (lower best) is) ∙ lower_assoc best (option_map f (slice_get ps i)) (lowest f (drop (suc i) ps)) ∙ ap (lower best) (lowest_at ps i) ∙ inv
+
+  -- a turn of the loop: what the lowest so far and the rest come to stays
+  pub lower_next : (ps : List X) (k : ℕ) (best next new all : Option ℤ) → 1 ≤ k → next ≡ option_map f (from_one ps k) → new ≡ lower best next → lower best (lowest f (drop (k - 1) ps)) ≡ all → lower new (lowest f (drop k ps)) ≡ all
+  lower_next ps zero best next new all low is made inv = absurd (omega arith)
+  lower_next ps (suc i) best next new all low is made inv =
+      let e : suc i - 1 ≡ i = omega arith in
+      lower_turn ps i best next new all is made (ap (λ n. lower best (lowest f (drop n ps))) (sym e) ∙ inv)
 
   pub lower_done : (ps : List X) (k : ℕ) (best : Option ℤ) → length ps ≤ k → lower best (lowest f (drop k ps)) ≡ best
   lower_done ps k best past = ap (lower best) (at_drop_all (lowest f) ps k past) ∙ lower_none best
@@ -39,21 +45,6 @@ module _ {X : Type 0} (f : X → ℤ) where
   pub lower_start : (x : X) (b : Bool) (ps : List X) → lower (cond b (Some (f x)) None) (lowest f ps) ≡ lowest f (cond b (x ∷ ps) ps)
   lower_start x true ps = refl
   lower_start x false ps = refl
-
--- what holds of each holds of the one at a place
-all_nth : {X : Type 0} (P : X → Type 0) (xs : List X) (j : ℕ) (x : X) → slice_get xs j ≡ Some x → AllByRecursion P xs → P x
-all_nth P [] j x e all = let z : ◌≡◌ {A = ℕ} 0 1 = cc in absurd (omega arith)
-all_nth P (y ∷ ys) zero x e all = let same : y ≡ x = cc in rw same at all.0
-all_nth P (y ∷ ys) (suc j) x e all = all_nth P ys j x e all.1
-
-pub all_from_one : {X : Type 0} (P : X → Type 0) (xs : List X) (k : ℕ) (x : X) → from_one xs k ≡ Some x → AllByRecursion P xs → P x
-all_from_one P xs zero x e all = let z : ◌≡◌ {A = ℕ} 0 1 = cc in absurd (omega arith)
-all_from_one P xs (suc j) x e all = all_nth P xs j x e all
-
-pub some_from_one : {X : Type 0} (xs : List X) (k : ℕ) (x : X) → from_one xs k ≡ Some x → 0 < length xs
-some_from_one xs zero x e = let z : ◌≡◌ {A = ℕ} 0 1 = cc in absurd (omega arith)
-some_from_one [] (suc j) x e = let z : ◌≡◌ {A = ℕ} 0 1 = cc in absurd (omega arith)
-some_from_one (y ∷ ys) (suc j) x e = omega arith
 
 -- ---- the floor of the lowest is the least of the floors
 floor_min : (y z : ℤ) → down (int_min y z) 10000 ≡ int_min (down y 10000) (down z 10000)
@@ -82,10 +73,15 @@ lower_small m None b h k = k
 lower_small m (Some x) None h k = h
 lower_small m (Some x) (Some y) h k = omega (arith, ints, clamps)
 
-pub floored_small : (m : ℕ) (o : Option ℤ) → Small (10000 * m) o → nat_abs (floored o) ≤ m
+floored_small : (m : ℕ) (o : Option ℤ) → Small (10000 * m) o → nat_abs (floored o) ≤ m
 floored_small m None h = omega arith
 floored_small m (Some (pos n)) h = omega arith
 floored_small m (Some (negsuc n)) h = omega arith
+
+pub floored_reach : (z : ℤ) (o : Option ℤ) → Small (reach z) o → nat_abs (floored o) ≤ 2 * nat_abs z + 500_000_000_000_000_000_000_000
+floored_reach z o h =
+    let e : reach z ≡ 10000 * (2 * nat_abs z + 500_000_000_000_000_000_000_000) = omega arith in
+    floored_small (2 * nat_abs z + 500_000_000_000_000_000_000_000) o (subst (λ m. Small m o) e h)
 
 -- a code that is not known has no pieces, and one that is has at most the source's number
 pub within_limit : {X : Type 0} (ps : List X) (most : ℕ) → (0 < length ps → length ps ≤ most) → (k : ℕ) → most ≤ k → length ps ≤ k

@@ -1,20 +1,26 @@
 -- What a filter keeps of a part of a list that leaves out only what fails the test.
-use Rattle.std.proofs.Common.{◌≡◌, ℕ, ◌+◌, ◌<◌, ◌≤◌, Bool, false, cond, List, [], ◌++◌, length, get_or, take, drop, ℤ, pos, filter, sym, ap, ◌∙◌}
-use Rattle.std.proofs.lemmas.List.{at_drop_more, at_drop_all, append-nil}
-use Rattle.std.proofs.lemmas.List.Elements.{filter_more}
+use Rattle.std.proofs.Common.{◌≡◌, ℕ, zero, suc, ◌+◌, ◌-◌, ◌<◌, ◌≤◌, Bool, false, cond, List, [], ◌∷◌, length, get_or, take, drop, ℤ, pos, filter, sym, refl, ap, ◌∙◌, arith, length-drop}
+use Rattle.std.proofs.lemmas.List.{get_or-drop}
 use Rattle.std.proofs.lemmas.Bool.{cond-false}
 use Rattle.margin.specs.Numbers.{total, count}
 use Rattle.margin.proofs.Sums.{sum_kept, count_kept}
 
 module _ {X : Type 0} (t : X → Bool) where
-  pub kept_later : (xs : List X) (i : ℕ) (d : X) → i < length xs → t (get_or xs i d) ≡ false → filter t (drop i xs) ≡ filter t (drop (i + 1) xs)
-  kept_later xs i d h e = at_drop_more (filter t) xs i d h ∙ cond-false _ _ _ e
+  none_before : (xs : List X) (s : ℕ) → ((k : ℕ) (d : X) → k < s → k < length xs → t (get_or xs k d) ≡ false) → filter t (drop s xs) ≡ filter t xs
+  none_before xs zero h = refl
+  none_before [] (suc s) h = refl
+  none_before (x ∷ xs) (suc s) h = none_before xs s (λ k d i j. h (suc k) d (omega arith) (omega arith)) ∙ sym (cond-false _ _ _ (h 0 x (omega arith) (omega arith)))
 
-  pub kept_end : (xs : List X) (i : ℕ) → length xs ≤ i → filter t (drop i xs) ≡ []
-  kept_end xs i h = at_drop_all (filter t) xs i h
+  none_after : (xs : List X) (e : ℕ) → ((k : ℕ) (d : X) → e ≤ k → k < length xs → t (get_or xs k d) ≡ false) → filter t (take e xs) ≡ filter t xs
+  none_after [] zero h = refl
+  none_after [] (suc e) h = refl
+  none_after (x ∷ xs) zero h = none_after xs zero (λ k d i j. h (suc k) d (omega arith) (omega arith)) ∙ sym (cond-false _ _ _ (h 0 x (omega arith) (omega arith)))
+  none_after (x ∷ xs) (suc e) h = ap (λ ys. cond (t x) (x ∷ ys) ys) (none_after xs e (λ k d i j. h (suc k) d (omega arith) (omega arith)))
 
-  pub kept_before : (xs : List X) (i : ℕ) (d : X) → i < length xs → t (get_or xs i d) ≡ false → filter t (take (i + 1) xs) ≡ filter t (take i xs)
-  kept_before xs i d h e = filter_more t xs i d h ∙ ap (λ l. filter t (take i xs) ++ l) (cond-false _ _ _ e) ∙ append-nil (filter t (take i xs))
+  pub kept_between : (xs : List X) (s e : ℕ) → ((k : ℕ) (d : X) → k < s → k < length xs → t (get_or xs k d) ≡ false) → ((k : ℕ) (d : X) → e ≤ k → k < length xs → t (get_or xs k d) ≡ false) →
+      filter t (take (e - s) (drop s xs)) ≡ filter t xs
+  kept_between xs s e first later =
+      none_after (drop s xs) (e - s) (λ k d i j. ap t (get_or-drop s xs k d) ∙ later (s + k) d (omega arith) (omega (arith, length-drop s xs))) ∙ none_before xs s first
 
   -- sums over what is kept alike
   pub total_alike : (g : X → ℤ) (xs ys : List X) → filter t xs ≡ filter t ys → total (λ x. cond (t x) (g x) (pos 0)) xs ≡ total (λ x. cond (t x) (g x) (pos 0)) ys

@@ -1,5 +1,5 @@
 -- The values in ten-thousandths are the rules'.
-use Rattle.std.proofs.Common.{◌≡◌, ℕ, ◌+◌, ◌*◌, Bool, true, false, cond, List, [], ◌∷◌, ℤ, pos, ◌+ℤ◌, ◌-ℤ◌, ◌*ℤ◌, neg_ℤ, filter, sym, refl, ap, ◌∙◌, ap₂, mul_comm, arith}
+use Rattle.std.proofs.Common.{◌≡◌, ℕ, ◌+◌, ◌*◌, Bool, true, false, cond, List, [], ◌∷◌, ℤ, pos, ◌+ℤ◌, ◌-ℤ◌, ◌*ℤ◌, neg_ℤ, Some, None, filter, sym, refl, ap, ◌∙◌, ap₂, mul_comm, arith}
 use lib.IntN.{+ℤ_idr}
 use Rattle.std.specs.Int.{int_min}
 use Rattle.std.proofs.lemmas.Int.{ints, clamps}
@@ -11,13 +11,14 @@ use Rattle.margin.specs.declared.Side.TheVariants.{Buy, Sell}
 use Rattle.margin.specs.Numbers.{down, least, total}
 use Rattle.margin.specs.Orders.{on, signed, counted_price}
 use Rattle.margin.specs.Sheets.{off_list}
-use Rattle.margin.specs.Holdings.{worth}
+use Rattle.margin.specs.Holdings.{worth, pieces_of}
 use Rattle.margin.specs.Fillings.{drag, low}
 use Rattle.margin.proofs.Integers.{mul_sum, mul_mul, mul_neg}
 use Rattle.margin.proofs.Sums.{least_same}
-use Rattle.valuation.specs.Raw.{unit_loss, loss, lost, raw, with_nought}
+use Rattle.valuation.specs.Raw.{unit_loss, loss, lost, raw, nought, with_nought, lower, lowest, floored}
 use Rattle.valuation.specs.Values.{any_sheet, one_line}
 use Rattle.valuation.proofs.Parts.{total_alike}
+use Rattle.valuation.proofs.Lowests.{lower_start, floored_least}
 
 min_loss : (s : Side) (k m : ℕ) → int_min (pos 0) (signed s (pos k -ℤ pos m)) ≡ neg_ℤ (pos (unit_loss s k m))
 min_loss Buy k m = omega (arith, ints, clamps)
@@ -48,7 +49,7 @@ raw_is : (i : Instrument) (p : Piece) (os : List Order) (q z : ℤ) → z ≡ po
 raw_is i p os q z e = ap₂ ◌+ℤ◌ (base_is i.price p.weight p.allowance q z e) (lost_is i p os)
 
 -- the part of the orders has all the line's own
-pub low_is : (pieces : ℕ → List Piece) (i : Instrument) (part os : List Order) (q z : ℤ) → z ≡ pos i.price *ℤ q → filter (on i.code) part ≡ filter (on i.code) os →
+low_is : (pieces : ℕ → List Piece) (i : Instrument) (part os : List Order) (q z : ℤ) → z ≡ pos i.price *ℤ q → filter (on i.code) part ≡ filter (on i.code) os →
     least (λ p. down (raw i.price z (lost part i.code i.price p.weight) p) 10000) (with_nought (off_list i.kind) (pieces i.code)) ≡ low (any_sheet pieces) (one_line q os) i
 low_is pieces i part os q z e k =
     least_same _ _
@@ -56,6 +57,22 @@ low_is pieces i part os q z e k =
     (with_nought (off_list i.kind) (pieces i.code))
 
 -- with no order
-pub worth_is : (P c : ℕ) (q z : ℤ) (ps : List Piece) → z ≡ pos P *ℤ q → least (λ p. down (raw P z (lost [] c P p.weight) p) 10000) ps ≡ worth ps P q
+worth_is : (P c : ℕ) (q z : ℤ) (ps : List Piece) → z ≡ pos P *ℤ q → least (λ p. down (raw P z (lost [] c P p.weight) p) 10000) ps ≡ worth ps P q
 worth_is P c q z ps e =
     least_same _ _ (λ p. ap (λ x. down x 10000) (+ℤ_idr (pos p.weight *ℤ z +ℤ pos (P * p.allowance)) ∙ base_is P p.weight p.allowance q z e)) ps
+
+-- what a line comes to with no order is its worth
+pub worth_low : (pieces : ℕ → List Piece) (i : Instrument) (q : ℤ) → low (any_sheet pieces) (one_line q []) i ≡ worth (pieces_of (any_sheet pieces) i) i.price q
+worth_low pieces i q = least_same _ _ (λ p. ap (λ x. down x 10000) (+ℤ_idr (pos i.price *ℤ (pos p.weight *ℤ q +ℤ pos p.allowance)))) (pieces_of (any_sheet pieces) i)
+
+-- as the code finds it
+pub low_found : (pieces : ℕ → List Piece) (i : Instrument) (part os : List Order) (q : ℤ) (code price : ℕ) (z : ℤ) → code ≡ i.code → price ≡ i.price → z ≡ pos i.price *ℤ q → filter (on i.code) part ≡ filter (on i.code) os →
+    floored (lower (cond (off_list i.kind) (Some (raw price z (lost part code price 0) nought)) None) (lowest (λ p. raw price z (lost part code price p.weight) p) (pieces code))) ≡ low (any_sheet pieces) (one_line q os) i
+low_found pieces i part os q code price z c p e k =
+    rw (c, p)
+    (ap floored (lower_start (λ p. raw i.price z (lost part i.code i.price p.weight) p) nought (off_list i.kind) (pieces i.code))
+    ∙ floored_least (λ p. raw i.price z (lost part i.code i.price p.weight) p) (with_nought (off_list i.kind) (pieces i.code))
+    ∙ low_is pieces i part os q z e k)
+
+pub worth_found : (P c : ℕ) (q z : ℤ) (ps : List Piece) → z ≡ pos P *ℤ q → floored (lowest (λ p. raw P z (lost [] c P p.weight) p) ps) ≡ worth ps P q
+worth_found P c q z ps e = floored_least (λ p. raw P z (lost [] c P p.weight) p) ps ∙ worth_is P c q z ps e

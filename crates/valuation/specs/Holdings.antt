@@ -10,9 +10,8 @@ use Rattle.margin.specs.Cash.{cash_by}
 use Rattle.margin.specs.Sheets.{Sheet}
 use Rattle.margin.specs.Holdings.{Holding, held}
 use Rattle.valuation.specs.declared.line.Line.{Line}
-use Rattle.valuation.specs.declared.totals.Figure.{Figure}
 use Rattle.valuation.specs.Keys.{line_code}
-use Rattle.valuation.specs.Values.{of, line_value, shock_in}
+use Rattle.valuation.specs.Values.{of}
 
 abbrev pub sheet_of : (ℕ → List Piece) → List Currency → List Instrument → Sheet
 sheet_of pieces cs is = record { currencies = cs; instruments = is; pieces = pieces }
@@ -24,15 +23,15 @@ planned_in ls code = of (λ l. l.planned) (lookup line_code ls code)
 abbrev pub holding_of : (ℕ → ℤ) → List Line → List Order → Holding
 holding_of cash ls os = record { cash = cash; planned = planned_in ls; lines = map line_code ls; orders = os }
 
-module _ (f : Figure) (pieces : ℕ → List Piece) (is : List Instrument) (ls : List Line) (os : List Order) where
+module _ (v : Instrument → ℤ → ℤ) (shock : ℕ → ℤ → ℤ) (is : List Instrument) (ls : List Line) where
   -- z, and the values of the currency's lines
   abbrev pub equity_in : ℕ → ℤ → ℤ
-  equity_in c z = z +ℤ total (λ i. line_value f pieces os i (planned_in ls i.code)) (held (sheet_of pieces [] is) (holding_of (λ _. pos 0) ls os) c)
+  equity_in c z = z +ℤ total (λ i. v i (planned_in ls i.code)) (held (sheet_of (λ _. []) [] is) (holding_of (λ _. pos 0) ls []) c)
 
   -- the same after its shock, in roubles
   abbrev pub roubles_in : Currency → ℤ → ℤ
-  roubles_in c z = down (shock_in f pieces c.code (equity_in c.code z) *ℤ pos c.fx) 10000
+  roubles_in c z = down (shock c.code (equity_in c.code z) *ℤ pos c.fx) 10000
 
 -- the sum over the currencies, each with the cash at its place
-abbrev pub figure_in : Figure → (ℕ → List Piece) → List Currency → List Instrument → List Line → List Order → List ℤ → ℤ
-figure_in f pieces cs is ls os zs = total (λ c. roubles_in f pieces is ls os c (cash_by cs zs c.code)) cs
+abbrev pub figure_in : (Instrument → ℤ → ℤ) → (ℕ → ℤ → ℤ) → List Currency → List Instrument → List Line → List ℤ → ℤ
+figure_in v shock cs is ls zs = total (λ c. roubles_in v shock is ls c (cash_by cs zs c.code)) cs

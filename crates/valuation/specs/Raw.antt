@@ -7,7 +7,7 @@ use Rattle.margin.specs.declared.Side.{Side}
 use Rattle.margin.specs.declared.Side.TheVariants.{Buy, Sell}
 use Rattle.margin.specs.Numbers.{down, count}
 use Rattle.margin.specs.Orders.{on, counted_price}
-use Rattle.valuation.specs.declared.pieces.Stake.{Stake}
+use Rattle.valuation.specs.declared.stake.Stake.{Stake}
 
 abbrev pub unit_loss : Side → ℕ → ℕ → ℕ
 unit_loss Buy worth money = money - worth

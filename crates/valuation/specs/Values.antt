@@ -9,8 +9,6 @@ use Rattle.margin.specs.Sheets.{Sheet}
 use Rattle.margin.specs.Holdings.{Holding, worth, pieces_of, counted, shocked}
 use Rattle.margin.specs.Fillings.{low}
 use Rattle.valuation.specs.declared.line.Line.{Line}
-use Rattle.valuation.specs.declared.totals.Figure.{Figure}
-use Rattle.valuation.specs.declared.totals.Figure.TheVariants.{Net, Worth, Low}
 
 -- a sheet with this source of pieces
 abbrev pub any_sheet : (ℕ → List Piece) → Sheet
@@ -21,15 +19,21 @@ abbrev pub one_line : ℤ → List Order → Holding
 one_line q os = record { cash = λ _. pos 0; planned = λ _. q; lines = []; orders = os }
 
 -- what so many units count for: at the sheet's price, at their worth, or at the least that they can come to
-abbrev pub line_value : Figure → (ℕ → List Piece) → List Order → Instrument → ℤ → ℤ
-line_value Net pieces os i q = counted (any_sheet pieces) i q *ℤ pos i.price
-line_value Worth pieces os i q = worth (pieces_of (any_sheet pieces) i) i.price q
-line_value Low pieces os i q = low (any_sheet pieces) (one_line q os) i
+abbrev pub net_value : (ℕ → List Piece) → List Order → Instrument → ℤ → ℤ
+net_value pieces os i q = counted (any_sheet pieces) i q *ℤ pos i.price
 
-abbrev pub shock_in : Figure → (ℕ → List Piece) → ℕ → ℤ → ℤ
-shock_in Net pieces c e = e
-shock_in Worth pieces c e = shocked (any_sheet pieces) c e
-shock_in Low pieces c e = shocked (any_sheet pieces) c e
+abbrev pub worth_value : (ℕ → List Piece) → List Order → Instrument → ℤ → ℤ
+worth_value pieces os i q = worth (pieces_of (any_sheet pieces) i) i.price q
+
+abbrev pub low_value : (ℕ → List Piece) → List Order → Instrument → ℤ → ℤ
+low_value pieces os i q = low (any_sheet pieces) (one_line q os) i
+
+-- what an amount of a currency counts for: as it is, or shocked
+abbrev pub unshocked : (ℕ → List Piece) → ℕ → ℤ → ℤ
+unshocked pieces c e = e
+
+abbrev pub shocked_value : (ℕ → List Piece) → ℕ → ℤ → ℤ
+shocked_value pieces c e = shocked (any_sheet pieces) c e
 
 -- f of what was found, and 0 where nothing was
 abbrev pub of : {X : Type 0} → (X → ℤ) → Option X → ℤ

@@ -4,11 +4,21 @@
 mod limits;
 mod line;
 mod lines;
+mod listing;
+mod market;
+mod measure;
 mod orders;
 mod pieces;
+mod portfolio;
+mod risk;
+mod stake;
 mod totals;
+mod weighed;
 
-pub use limits::gross;
 pub use line::Line;
-pub use lines::{low, shocked, worth};
-pub use totals::{figures, first_ratio, value, worst_case};
+pub use lines::Lines;
+pub use listing::Listing;
+pub use market::Market;
+pub use orders::Orders;
+pub use portfolio::Portfolio;
+pub use risk::{low, shocked, worth};

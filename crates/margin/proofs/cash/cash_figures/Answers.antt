@@ -36,5 +36,5 @@ returns c = λ l a.
     let second : iter_rest (zip_second c.into_iter-currency-iterator.result) ≡ c.args.cash.now = search rules in
     c.figures_from.ensures
     ∙ cash_figures_are c.args.currencies.now c.args.cash.now a (omega arith) _ _
-    (c.loop-currency.invariant.0 ∙ by_place_end valued c.args.currencies.now c.args.cash.now c.loop-currency.yielded c.into_iter-currency-iterator.result c.loop-currency.currency-iterator c.next.new.self c.next.result first second c.loop-currency.yielded_by c.next.ensures.steps c.in-None.is (omega arith))
-    (c.loop-currency.invariant.1 ∙ by_place_end at_risk c.args.currencies.now c.args.cash.now c.loop-currency.yielded c.into_iter-currency-iterator.result c.loop-currency.currency-iterator c.next.new.self c.next.result first second c.loop-currency.yielded_by c.next.ensures.steps c.in-None.is (omega arith))
+    (c.loop-currency.invariant.0 ∙ (by_place_end valued c.args.currencies.now c.args.cash.now c.loop-currency.yielded c.into_iter-currency-iterator.result c.loop-currency.currency-iterator c.next.new.self c.next.result first second c.loop-currency.yielded_by c.next.ensures.steps c.in-None.is (omega arith)).0)
+    (c.loop-currency.invariant.1 ∙ (by_place_end at_risk c.args.currencies.now c.args.cash.now c.loop-currency.yielded c.into_iter-currency-iterator.result c.loop-currency.currency-iterator c.next.new.self c.next.result first second c.loop-currency.yielded_by c.next.ensures.steps c.in-None.is (omega arith)).0)

@@ -1,7 +1,0 @@
-use Rattle.std.proofs.Common.{◌≡◌, ◌*◌, ◌^◌, ◌≤◌, cond, take}
-use Rattle.margin.specs.Numbers.{count}
-use Rattle.margin.specs.Orders.{on}
-use Rattle.valuation.proofs.limits.open_units.Given as goal
-
-abbrev pub invariant-loop-order : goal.invariant-loop-order
-invariant-loop-order l = (l.sum ≡ count (λ o. cond (on l.code o) o.left 0) (take l.order-index l.orders)) × (l.sum ≤ l.order-index * 2 ^ 32)

@@ -1,0 +1,23 @@
+// The instruments of a sheet, in the order of their codes.
+ghost use Rattle.std.specs.Prelude.{◌≡◌};
+ghost use Rattle.keyed.specs.Rows.{Rising, lookup};
+ghost use Rattle.margin.specs.Keys.{instrument_code};
+
+use keyed::find;
+use margin::Instrument;
+
+#[derive(Clone, Copy)]
+pub struct Listing<'a> {
+    pub instruments: &'a [Instrument],
+    ghost rising: { Rising instrument_code instruments.now },
+}
+
+impl<'a> Listing<'a> {
+    // The instrument of a code.
+    pub(crate) fn at(&self, code: u16) -> Option<Instrument>
+        ensures { result ≡ lookup instrument_code self.now.instruments.now code }
+    {
+        let at = find(self.instruments, self.instruments.len(), code).ok()?;
+        Some(self.instruments[at])
+    }
+}

@@ -1,0 +1,97 @@
+// What lines and currencies count for: at the sheet's price, at their worth, or at the least that they can come to.
+ghost use Rattle.std.specs.Prelude.{◌≡◌, ℕ, ◌*◌, ◌^◌, ◌≤◌, List, ℤ, unsigned_abs};
+ghost use Rattle.margin.specs.declared.Instrument as instruments;
+ghost use Rattle.margin.specs.declared.Order as orders;
+ghost use Rattle.margin.specs.declared.Piece as pieces;
+ghost use Rattle.valuation.specs.Values.{net_value, worth_value, low_value, unshocked, shocked_value};
+
+use crate::line::Line;
+use crate::orders::Orders;
+use crate::risk::{low, net, shocked, worth};
+use margin::Instrument;
+use rates::RateSource;
+
+pub trait Measure {
+    // Of so many units of an instrument.
+    ghost line_value: { (ℕ → List pieces.Piece) → List orders.Order → instruments.Instrument → ℤ → ℤ };
+
+    // Of an amount of a currency.
+    ghost shock: { (ℕ → List pieces.Piece) → ℕ → ℤ → ℤ };
+
+    fn line_value<S: RateSource>(
+        source: &S,
+        instrument: Instrument,
+        line: Line,
+        orders: &Orders,
+    ) -> i128
+        ensures is { result ≡ line_value (S.RateSource.pieces source.now) orders.now.orders.now instrument line.planned }
+        ensures small { unsigned_abs result ≤ 10 ^ 24 };
+
+    fn shock<S: RateSource>(source: &S, currency: u16, amount: i128) -> i128
+        requires { unsigned_abs amount ≤ 10 ^ 28 }
+        ensures is { result ≡ shock (S.RateSource.pieces source.now) currency amount }
+        ensures small { unsigned_abs result ≤ 3 * 10 ^ 28 };
+}
+
+pub struct Net;
+
+impl Measure for Net {
+    ghost line_value = { net_value };
+
+    ghost shock = { unshocked };
+
+    fn line_value<S: RateSource>(
+        _source: &S,
+        instrument: Instrument,
+        line: Line,
+        _orders: &Orders,
+    ) -> i128 {
+        net(instrument, line)
+    }
+
+    fn shock<S: RateSource>(_source: &S, _currency: u16, amount: i128) -> i128 {
+        amount
+    }
+}
+
+pub struct Worth;
+
+impl Measure for Worth {
+    ghost line_value = { worth_value };
+
+    ghost shock = { shocked_value };
+
+    fn line_value<S: RateSource>(
+        source: &S,
+        instrument: Instrument,
+        line: Line,
+        _orders: &Orders,
+    ) -> i128 {
+        worth(source, instrument, line)
+    }
+
+    fn shock<S: RateSource>(source: &S, currency: u16, amount: i128) -> i128 {
+        shocked(source, currency, amount)
+    }
+}
+
+pub struct Low;
+
+impl Measure for Low {
+    ghost line_value = { low_value };
+
+    ghost shock = { shocked_value };
+
+    fn line_value<S: RateSource>(
+        source: &S,
+        instrument: Instrument,
+        line: Line,
+        orders: &Orders,
+    ) -> i128 {
+        low(source, instrument, line, orders)
+    }
+
+    fn shock<S: RateSource>(source: &S, currency: u16, amount: i128) -> i128 {
+        shocked(source, currency, amount)
+    }
+}
