@@ -1,4 +1,5 @@
-// What refuses a call. It holds a sheet's fault whole, and that a field's.
+// What refuses a call. It holds a sheet's fault whole, and that a field's. Each layer has a type of its own, which names the
+// layer below: one type over both would want a trait for number, place and layer, and lose the names.
 ghost use Rattle.std.specs.Prelude.{◌≡◌};
 ghost use Rattle.sheet.specs.declared.faults.SheetFault.TheVariants.{Field as InField};
 ghost use Rattle.register.specs.declared.faults.RegisterFault.TheVariants.{Sheet as InSheet};

@@ -1,4 +1,5 @@
-// The checks of each call in their order, and the change where none fails. A refusal leaves the register as it was.
+// The checks of each call in their order, and the change where none fails. A refusal leaves the register as it was. Each call
+// has its checks one under the other, also those that another has: so its order is read in one place.
 ghost use Rattle.std.specs.Prelude.{◌≡◌, pos, neg_ℤ, MatchResult};
 ghost use Rattle.register.specs.State.{Unchanged, Opens, Pays};
 ghost use Rattle.register.specs.Answers.{opens, pays_in, pays_out, tells};
