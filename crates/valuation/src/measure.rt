@@ -11,7 +11,7 @@ use crate::risk::{low, net, shocked, worth};
 use margin::Instrument;
 use rates::RateSource;
 
-pub trait Measure {
+pub(crate) trait Measure {
     // Of so many units of an instrument.
     ghost line_value: { (ℕ → List pieces.Piece) → List orders.Order → instruments.Instrument → ℤ → ℤ };
 
@@ -33,7 +33,7 @@ pub trait Measure {
         ensures small { unsigned_abs result ≤ 3 * 10 ^ 28 };
 }
 
-pub struct Net;
+pub(crate) struct Net;
 
 impl Measure for Net {
     ghost line_value = { net_value };
@@ -54,7 +54,7 @@ impl Measure for Net {
     }
 }
 
-pub struct Worth;
+pub(crate) struct Worth;
 
 impl Measure for Worth {
     ghost line_value = { worth_value };
@@ -75,7 +75,7 @@ impl Measure for Worth {
     }
 }
 
-pub struct Low;
+pub(crate) struct Low;
 
 impl Measure for Low {
     ghost line_value = { low_value };

@@ -20,7 +20,7 @@ fn value_at<S: RateSource>(source: &S, stake: Stake, k: usize, orders: &Orders) 
 }
 
 // The lower of two, where there are two.
-pub fn lower_of(a: Option<i128>, b: Option<i128>) -> Option<i128>
+pub(crate) fn lower_of(a: Option<i128>, b: Option<i128>) -> Option<i128>
     ensures { result ≡ lower a b }
 {
     match (a, b) {
@@ -30,7 +30,7 @@ pub fn lower_of(a: Option<i128>, b: Option<i128>) -> Option<i128>
 }
 
 // The least over the pieces. The source says beforehand how many there may be.
-pub fn least<S: RateSource>(source: &S, stake: Stake, orders: &Orders) -> Option<i128>
+pub(crate) fn least<S: RateSource>(source: &S, stake: Stake, orders: &Orders) -> Option<i128>
     ensures is { result ≡ lowest (raw_of orders.now.orders.now stake) (S.RateSource.pieces source.now stake.code) }
     ensures small { Small (reach stake.amount) result }
 {
@@ -42,7 +42,7 @@ pub fn least<S: RateSource>(source: &S, stake: Stake, orders: &Orders) -> Option
 }
 
 // Rounded down; 0 where there is none.
-pub fn floored(best: Option<i128>) -> i128
+pub(crate) fn floored(best: Option<i128>) -> i128
     ensures { result ≡ floored best }
 {
     best.map_or(0, |z| rounded_down(z))

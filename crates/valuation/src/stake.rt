@@ -2,7 +2,7 @@
 ghost use Rattle.std.specs.Prelude.{◌^◌, ◌≤◌, unsigned_abs};
 
 #[derive(Clone, Copy)]
-pub struct Stake {
+pub(crate) struct Stake {
     pub code: u16,
     pub price: u32,
     pub amount: i128,

@@ -9,7 +9,7 @@ use margin::{Order, Piece, Side};
 
 // The piece is within the rules' bounds.
 #[derive(Clone, Copy)]
-pub struct Weighed {
+pub(crate) struct Weighed {
     pub stake: Stake,
     pub piece: Piece,
     ghost weight: { piece.weight ≤ 20_000 },

@@ -1,4 +1,4 @@
-use Rattle.std.proofs.Common.{◌≡◌, ◌+◌, ◌^◌, ◌≤◌, cond, nat_abs, ◌∙◌, mul-le-mul, arith, w64, SFits, rules}
+use Rattle.std.proofs.Common.{◌≡◌, ◌+◌, cond, nat_abs, ◌∙◌, arith, w64, SFits, rules}
 use Rattle.margin.specs.Numbers.{count}
 use Rattle.margin.specs.Orders.{on}
 use Rattle.margin.proofs.Sizes.{size_fits}
@@ -6,16 +6,11 @@ use Rattle.std.proofs.lemmas.Int.{to_z-of_z}
 use Rattle.valuation.proofs.Grosses.{line_gross}
 use Rattle.valuation.proofs.limits.gross_of_line.Goals as goal
 
-pub returns : goal.returns
-returns c =
+pub returns-clause-is : goal.returns-clause-is
+returns-clause-is c =
     let i = c.args.instrument in
     let part = c.part-part.result.orders.now in
     let q : SFits w64 c.args.line.planned = size_fits w64 c.args.line.planned (omega arith) in
     let n : c.from.result ≡ nat_abs c.args.line.planned = search (rules, to_z-of_z) in
     let units : c.from.result + c.open_units.result ≡ nat_abs c.args.line.planned + count (λ o. cond (on c.args.instrument.code o) o.left 0) c.part-part.result.orders.now = omega (arith, c.open_units.ensures.is) in
-    let a : c.from.result + c.open_units.result ≤ 2 ^ 46 = omega (arith, c.open_units.ensures.small) in
-    let b : c.from-2.result ≤ 2 ^ 32 = omega arith in
-    record {
-      is = line_gross i c.args.line.planned part c.args.orders.now.orders.now _ _ c.part-part.ensures units (c.from-2.ensures ∙ c.highest.ensures);
-      small = mul-le-mul a b;
-    }
+    line_gross i c.args.line.planned part c.args.orders.now.orders.now _ _ c.part-part.ensures units (c.from-2.ensures ∙ c.highest.ensures)

@@ -3,13 +3,6 @@ use mir.Syntax.{w128}
 use Rattle.margin.proofs.Sizes.{product_size, size_fits}
 use Rattle.valuation.proofs.risk.net.Goals as goal
 
-pub overflow_mul-result : goal.overflow_mul-result
-overflow_mul-result c =
-    let p : c.args.instrument.price ≤ 4294967296 = omega arith in
-    let s = product_size c.counted.result (pos c.args.instrument.price) 200_000_000_000 4294967296 c.counted.ensures.small p in
-    let f : SFits w128 (c.counted.result *ℤ pos c.args.instrument.price) = size_fits w128 (c.counted.result *ℤ pos c.args.instrument.price) (omega (arith, s)) in
-    search rules
-
 pub returns : goal.returns
 returns c =
     let p : c.args.instrument.price ≤ 4294967296 = omega arith in

@@ -15,14 +15,11 @@ loop-line-preserved c =
     let here = ap value c.line-item.is in
     (omega (arith, c.loop-line.invariant.0, more, here, c.gross_in-sum.ensures.is), omega (arith, c.gross_in-sum.ensures.small))
 
-pub returns : goal.returns
-returns c =
+pub returns-clause-is : goal.returns-clause-is
+returns-clause-is c =
     let value = gross_in c.args.orders.now.orders.now c.args.self.now.instruments.now c.args.currency in
     let all : take c.loop-line.line-index c.args.lines.now.lines.now ≡ c.args.lines.now.lines.now = search (rules, take_all) in
-    record {
-      is = c.loop-line.invariant.0
-          ∙ ap (λ (ls : List Line). nat_abs (to_z w64 (of_z w64 c.args.cash)) + count value ls) all
-          ∙ ap (λ (z : ℤ). nat_abs z + count value c.args.lines.now.lines.now) (to_z-of_z w64 c.args.cash c.ranges.cash)
-          ∙ gross_is c.args.self.now.instruments.now c.args.lines.now.lines.now c.args.orders.now.orders.now c.args.currency c.args.cash c.args.lines.now.apart c.args.self.now.rising;
-      small = omega arith;
-    }
+    c.loop-line.invariant.0
+    ∙ ap (λ (ls : List Line). nat_abs (to_z w64 (of_z w64 c.args.cash)) + count value ls) all
+    ∙ ap (λ (z : ℤ). nat_abs z + count value c.args.lines.now.lines.now) (to_z-of_z w64 c.args.cash c.ranges.cash)
+    ∙ gross_is c.args.self.now.instruments.now c.args.lines.now.lines.now c.args.orders.now.orders.now c.args.currency c.args.cash c.args.lines.now.apart c.args.self.now.rising

@@ -16,16 +16,13 @@ loop-line-preserved g c =
     let here = ap value c.line-item.is in
     (omega (arith, ints, c.loop-line.invariant.0, more, here), omega (arith, ints))
 
-pub returns : goal.returns
-returns g c =
+pub returns-clause-is : goal.returns-clause-is
+returns-clause-is g c =
     let pieces = g.S.RateSource.pieces c.args.self.now.source.now in
     let v = g.M.Measure.line_value pieces c.args.portfolio.now.orders.orders.now in
     let value = value_in v c.args.self.now.listing.instruments.now c.args.currency in
     let is_all : take c.loop-line.line-index c.args.portfolio.now.lines.lines.now ≡ c.args.portfolio.now.lines.lines.now = search (rules, take_all) in
-    record {
-      small = omega (arith, ints);
-      is = c.loop-line.invariant.0
-          ∙ ap (λ ls. to_z w64 (of_z w64 c.args.cash) +ℤ total value ls) is_all
-          ∙ ap (λ z. z +ℤ total value c.args.portfolio.now.lines.lines.now) (to_z-of_z w64 c.args.cash c.ranges.cash)
-          ∙ equity_is v (g.M.Measure.shock pieces) c.args.self.now.listing.instruments.now c.args.portfolio.now.lines.lines.now c.args.currency c.args.cash c.args.portfolio.now.lines.apart c.args.self.now.listing.rising;
-    }
+    c.loop-line.invariant.0
+    ∙ ap (λ ls. to_z w64 (of_z w64 c.args.cash) +ℤ total value ls) is_all
+    ∙ ap (λ z. z +ℤ total value c.args.portfolio.now.lines.lines.now) (to_z-of_z w64 c.args.cash c.ranges.cash)
+    ∙ equity_is v (g.M.Measure.shock pieces) c.args.self.now.listing.instruments.now c.args.portfolio.now.lines.lines.now c.args.currency c.args.cash c.args.portfolio.now.lines.apart c.args.self.now.listing.rising

@@ -25,15 +25,12 @@ loop-currency-preserved g c =
     let e = simp to_z-of_z at c.roubles-sum.ensures.is in
     (omega (arith, ints, turn, e), omega (arith, ints, turn, length-append c.loop-currency.yielded ((c.in-Some.currency, c.in-Some.cash) ∷ [])))
 
-pub returns : goal.returns
-returns g c =
+pub returns-clause-is : goal.returns-clause-is
+returns-clause-is g c =
     let f = roubles_in (g.M.Measure.line_value (g.S.RateSource.pieces c.args.self.now.source.now) c.args.portfolio.now.orders.orders.now) (g.M.Measure.shock (g.S.RateSource.pieces c.args.self.now.source.now)) c.args.self.now.listing.instruments.now c.args.portfolio.now.lines.lines.now in
     let first : iter_rest (zip_first c.into_iter-currency-iterator.result) ≡ c.args.self.now.currencies.now = search rules in
     let second : iter_rest (zip_second c.into_iter-currency-iterator.result) ≡ c.args.portfolio.now.cash.now = search rules in
     let end = by_place_end f c.args.self.now.currencies.now c.args.portfolio.now.cash.now c.loop-currency.yielded c.into_iter-currency-iterator.result c.loop-currency.currency-iterator c.next.new.self c.next.result first second c.loop-currency.yielded_by c.next.ensures.steps c.in-None.is (omega arith) in
-    record {
-      is = c.loop-currency.invariant.0
-          ∙ end.0
-          ∙ by_code f c.args.self.now.currencies.now c.args.portfolio.now.cash.now c.args.self.now.apart (omega arith);
-      small = omega (arith, ints, end);
-    }
+    c.loop-currency.invariant.0
+    ∙ end.0
+    ∙ by_code f c.args.self.now.currencies.now c.args.portfolio.now.cash.now c.args.self.now.apart (omega arith)
