@@ -23,14 +23,13 @@ planned_in ls code = of (λ l. l.planned) (lookup line_code ls code)
 abbrev pub holding_of : (ℕ → ℤ) → List Line → List Order → Holding
 holding_of cash ls os = record { cash = cash; planned = planned_in ls; lines = map line_code ls; orders = os }
 
-module _ (v : Instrument → ℤ → ℤ) (shock : ℕ → ℤ → ℤ) (is : List Instrument) (ls : List Line) where
-  -- z, and the values of the currency's lines
-  abbrev pub equity_in : ℕ → ℤ → ℤ
-  equity_in c z = z +ℤ total (λ i. v i (planned_in ls i.code)) (held (sheet_of (λ _. []) [] is) (holding_of (λ _. pos 0) ls []) c)
+-- z, and a value v of each line of the currency
+abbrev pub equity_in : (Instrument → ℤ → ℤ) → List Instrument → List Line → ℕ → ℤ → ℤ
+equity_in v is ls c z = z +ℤ total (λ i. v i (planned_in ls i.code)) (held (sheet_of (λ _. []) [] is) (holding_of (λ _. pos 0) ls []) c)
 
-  -- the same after its shock, in roubles
-  abbrev pub roubles_in : Currency → ℤ → ℤ
-  roubles_in c z = down (shock c.code (equity_in c.code z) *ℤ pos c.fx) 10000
+-- the same after its shock, in roubles
+abbrev pub roubles_in : (Instrument → ℤ → ℤ) → (ℕ → ℤ → ℤ) → List Instrument → List Line → Currency → ℤ → ℤ
+roubles_in v shock is ls c z = down (shock c.code (equity_in v is ls c.code z) *ℤ pos c.fx) 10000
 
 -- the sum over the currencies, each with the cash at its place
 abbrev pub figure_in : (Instrument → ℤ → ℤ) → (ℕ → ℤ → ℤ) → List Currency → List Instrument → List Line → List ℤ → ℤ

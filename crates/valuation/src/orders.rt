@@ -12,13 +12,6 @@ pub struct Orders<'a> {
     ghost few: { length orders.now ≤ 8192 },
 }
 
-// What is open of an order, where it is in the code.
-fn open_in(order: Order, code: u16) -> u32
-    ensures { result ≡ (if on code order then order.left else 0) }
-{
-    if code == order.code { order.left } else { 0 }
-}
-
 impl<'a> Orders<'a> {
     // The orders from the first in the code to the last. Where orders are grouped by code these are just the code's.
     pub(crate) fn part(&self, code: u16) -> Orders<'a>
@@ -45,7 +38,9 @@ impl<'a> Orders<'a> {
     {
         let mut sum: u128 = 0;
         for order in self.orders {
-            sum += u128::from(open_in(*order, code));
+            if code == order.code {
+                sum += u128::from(order.left);
+            }
         }
         sum
     }

@@ -18,7 +18,7 @@ use rates::RateSource;
 impl<'a, S: RateSource> Market<'a, S> {
     // The value of a line, where it is in the sheet and priced in the currency.
     fn value_in<M: Measure>(&self, line: Line, orders: &Orders, currency: u16) -> i128
-        ensures is { result ≡ value_in (M.Measure.line_value (S.RateSource.pieces self.now.source.now) orders.now.orders.now) self.now.listing.instruments.now currency line }
+        ensures is { let pieces = S.RateSource.pieces self.now.source.now in result ≡ value_in (M.Measure.line_value pieces orders.now.orders.now) self.now.listing.instruments.now currency line }
         ensures small { unsigned_abs result ≤ 10 ^ 24 }
     {
         match self.listing.at(line.code) {
@@ -31,7 +31,7 @@ impl<'a, S: RateSource> Market<'a, S> {
 
     // Cash and the values of a currency's lines.
     fn equity<M: Measure>(&self, portfolio: &Portfolio, currency: u16, cash: i64) -> i128
-        ensures is { result ≡ equity_in (M.Measure.line_value (S.RateSource.pieces self.now.source.now) portfolio.now.orders.orders.now) (M.Measure.shock (S.RateSource.pieces self.now.source.now)) self.now.listing.instruments.now portfolio.now.lines.lines.now currency cash }
+        ensures is { let pieces = S.RateSource.pieces self.now.source.now in result ≡ equity_in (M.Measure.line_value pieces portfolio.now.orders.orders.now) self.now.listing.instruments.now portfolio.now.lines.lines.now currency cash }
         ensures small { unsigned_abs result ≤ 10 ^ 28 }
     {
         let mut sum = i128::from(cash);
@@ -43,7 +43,7 @@ impl<'a, S: RateSource> Market<'a, S> {
 
     // A currency's equity after its shock, in roubles.
     fn roubles<M: Measure>(&self, portfolio: &Portfolio, currency: Currency, cash: i64) -> i128
-        ensures is { result ≡ roubles_in (M.Measure.line_value (S.RateSource.pieces self.now.source.now) portfolio.now.orders.orders.now) (M.Measure.shock (S.RateSource.pieces self.now.source.now)) self.now.listing.instruments.now portfolio.now.lines.lines.now currency cash }
+        ensures is { let pieces = S.RateSource.pieces self.now.source.now in result ≡ roubles_in (M.Measure.line_value pieces portfolio.now.orders.orders.now) (M.Measure.shock pieces) self.now.listing.instruments.now portfolio.now.lines.lines.now currency cash }
         ensures small { unsigned_abs result ≤ 2 * 10 ^ 34 }
     {
         let equity = self.equity::<M>(portfolio, currency.code, cash);
@@ -52,7 +52,7 @@ impl<'a, S: RateSource> Market<'a, S> {
 
     // A figure of the portfolio: its currencies, each with the cash at its place.
     fn figure<M: Measure>(&self, portfolio: &Portfolio) -> i128
-        ensures is { result ≡ figure_in (M.Measure.line_value (S.RateSource.pieces self.now.source.now) portfolio.now.orders.orders.now) (M.Measure.shock (S.RateSource.pieces self.now.source.now)) self.now.currencies.now self.now.listing.instruments.now portfolio.now.lines.lines.now portfolio.now.cash.now }
+        ensures is { let pieces = S.RateSource.pieces self.now.source.now in result ≡ figure_in (M.Measure.line_value pieces portfolio.now.orders.orders.now) (M.Measure.shock pieces) self.now.currencies.now self.now.listing.instruments.now portfolio.now.lines.lines.now portfolio.now.cash.now }
         ensures small { unsigned_abs result ≤ 2 ^ 120 }
     {
         let mut sum: i128 = 0;

@@ -47,19 +47,6 @@ impl Weighed {
         u128::from(order.left) * u128::from(unit_loss(order.side, worth, money))
     }
 
-    // A sum of losses, and what the order adds to it where it is in the code.
-    fn with_loss(self, sum: u128, order: Order) -> u128
-        requires { sum ≤ 2 ^ 92 }
-        ensures is { result ≡ sum + (if on self.stake.code order then loss self.stake.price self.piece.weight order else 0) }
-        ensures small { result ≤ sum + 2 ^ 79 }
-    {
-        if self.stake.code == order.code {
-            sum + self.loss(order)
-        } else {
-            sum
-        }
-    }
-
     // What the orders in the code lose together. A loop, since of a sum by an iterator no bound is proved.
     fn losses(self, orders: &Orders) -> u128
         ensures is { result ≡ lost orders.now.orders.now self.stake.code self.stake.price self.piece.weight }
@@ -67,7 +54,9 @@ impl Weighed {
     {
         let mut sum: u128 = 0;
         for order in orders.orders {
-            sum = self.with_loss(sum, *order);
+            if self.stake.code == order.code {
+                sum += self.loss(*order);
+            }
         }
         sum
     }

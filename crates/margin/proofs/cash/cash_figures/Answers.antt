@@ -12,7 +12,7 @@ pub overflow_add-first : goal.overflow_add-first
 overflow_add-first c =
     let first : iter_rest (zip_first c.into_iter-currency-iterator.result) ≡ c.args.currencies.now = search rules in
     let second : iter_rest (zip_second c.into_iter-currency-iterator.result) ≡ c.args.cash.now = search rules in
-    let turn = by_place_turn valued c.args.currencies.now c.args.cash.now c.loop-currency.yielded c.into_iter-currency-iterator.result c.loop-currency.currency-iterator c.next.new.self c.next.result first second c.loop-currency.yielded_by c.next.ensures.steps (c.in-Some.currency, c.in-Some.cash) c.in-Some.is in
+    let turn = by_place_turn valued _ _ _ _ _ c.next.new.self _ first second c.loop-currency.yielded_by c.next.ensures.steps (c.in-Some.currency, c.in-Some.cash) c.in-Some.is in
     omega (arith, ints)
 
 pub loop-currency-preserved : goal.loop-currency-preserved
@@ -25,8 +25,8 @@ loop-currency-preserved c =
     let e = simp to_z-of_z at c.in_roubles-value.ensures.is in
     let s = simp to_z-of_z at c.shocked.ensures in
     let f = (simp to_z-of_z at c.in_roubles-first.ensures.is) ∙ ap (λ (z : ℤ). down (z *ℤ pos x.fx) 10000) s in
-    let v = by_place_turn valued c.args.currencies.now c.args.cash.now c.loop-currency.yielded c.into_iter-currency-iterator.result c.loop-currency.currency-iterator c.next.new.self c.next.result first second c.loop-currency.yielded_by c.next.ensures.steps (c.in-Some.currency, c.in-Some.cash) c.in-Some.is in
-    let n = by_place_turn at_risk c.args.currencies.now c.args.cash.now c.loop-currency.yielded c.into_iter-currency-iterator.result c.loop-currency.currency-iterator c.next.new.self c.next.result first second c.loop-currency.yielded_by c.next.ensures.steps (c.in-Some.currency, c.in-Some.cash) c.in-Some.is in
+    let v = by_place_turn valued _ _ _ _ _ c.next.new.self _ first second c.loop-currency.yielded_by c.next.ensures.steps (c.in-Some.currency, c.in-Some.cash) c.in-Some.is in
+    let n = by_place_turn at_risk _ _ _ _ _ c.next.new.self _ first second c.loop-currency.yielded_by c.next.ensures.steps (c.in-Some.currency, c.in-Some.cash) c.in-Some.is in
     let k = length-append c.loop-currency.yielded ((c.in-Some.currency, c.in-Some.cash) ∷ []) in
     (omega (arith, ints, v, e), omega (arith, ints, n, f), omega (arith, ints, v, k), omega (arith, ints, n, k))
 
@@ -36,5 +36,5 @@ returns c = λ l a.
     let second : iter_rest (zip_second c.into_iter-currency-iterator.result) ≡ c.args.cash.now = search rules in
     c.figures_from.ensures
     ∙ cash_figures_are c.args.currencies.now c.args.cash.now a (omega arith) _ _
-    (c.loop-currency.invariant.0 ∙ (by_place_end valued c.args.currencies.now c.args.cash.now c.loop-currency.yielded c.into_iter-currency-iterator.result c.loop-currency.currency-iterator c.next.new.self c.next.result first second c.loop-currency.yielded_by c.next.ensures.steps c.in-None.is (omega arith)).0)
-    (c.loop-currency.invariant.1 ∙ (by_place_end at_risk c.args.currencies.now c.args.cash.now c.loop-currency.yielded c.into_iter-currency-iterator.result c.loop-currency.currency-iterator c.next.new.self c.next.result first second c.loop-currency.yielded_by c.next.ensures.steps c.in-None.is (omega arith)).0)
+    (c.loop-currency.invariant.0 ∙ (by_place_end valued _ _ _ _ _ c.next.new.self _ first second c.loop-currency.yielded_by c.next.ensures.steps c.in-None.is (omega arith)).0)
+    (c.loop-currency.invariant.1 ∙ (by_place_end at_risk _ _ _ _ _ c.next.new.self _ first second c.loop-currency.yielded_by c.next.ensures.steps c.in-None.is (omega arith)).0)

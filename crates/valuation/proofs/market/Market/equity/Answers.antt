@@ -25,4 +25,4 @@ returns-clause-is g c =
     c.loop-line.invariant.0
     ∙ ap (λ ls. to_z w64 (of_z w64 c.args.cash) +ℤ total value ls) is_all
     ∙ ap (λ z. z +ℤ total value c.args.portfolio.now.lines.lines.now) (to_z-of_z w64 c.args.cash c.ranges.cash)
-    ∙ equity_is v (g.M.Measure.shock pieces) c.args.self.now.listing.instruments.now c.args.portfolio.now.lines.lines.now c.args.currency c.args.cash c.args.portfolio.now.lines.apart c.args.self.now.listing.rising
+    ∙ equity_is v c.args.self.now.listing.instruments.now c.args.portfolio.now.lines.lines.now c.args.currency c.args.cash c.args.portfolio.now.lines.apart c.args.self.now.listing.rising
