@@ -16,7 +16,7 @@ const ROUBLE: u16 = 643;
 
 const MOST_RISK: u16 = 10_000;
 
-// A fault where a number is outside its range.
+// A fault where a number is outside its range. It takes the test itself: an Option or a Result would hold no more.
 pub(crate) fn ranged(outside: bool, place: usize) -> Result<(), FieldFault>
     ensures { result ≡ ranged outside place }
 {

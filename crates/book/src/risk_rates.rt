@@ -1,11 +1,11 @@
-// The numbers of a risk rate, in ten-thousandths.
+// The numbers that a risk rate is entered by; rates are in ten-thousandths.
 ghost use Rattle.std.specs.Prelude.{◌≡◌, ◌||◌};
 ghost use Rattle.book.specs.Ranges.{no_rated_code, no_risk_rate, no_steps, no_limits, ranged};
 
 use crate::faults::FieldFault;
 use crate::ranges::{not_a_rated_code, not_a_risk_rate, ranged};
 
-// What the weights lie above and below 10,000.
+// The weights lie `plus` below and `minus` above 10,000.
 #[derive(Clone, Copy, Debug, PartialEq, Eq)]
 pub struct PostedRate {
     pub code: u16,

@@ -1,4 +1,4 @@
-// Tables of records whose keys rise.
+// Records found by their keys: on slices, on places, and in tables whose keys rise.
 #![tactic(auto)]
 
 pub mod keys;

@@ -1,4 +1,5 @@
-// Slices whose first places hold records with rising keys.
+// Slices whose first places hold records with rising keys. How many are used stands beside the slice, since the places may be
+// a caller's.
 ghost use Rattle.std.specs.Prelude.{◌≡◌, ◌+◌, ◌-◌, ◌<◌, ◌≤◌, min, length, take, drop};
 ghost use Rattle.std.specs.List.{insert, remove};
 ghost use Rattle.std.specs.List.Sorted.{IsSearchInRange};

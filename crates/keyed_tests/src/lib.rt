@@ -1,4 +1,4 @@
-// Tables at two record types: filled, emptied and filled again.
+// Places and tables at two record types: filled, emptied and filled again.
 #![tactic(auto)]
 
 ghost use Rattle.std.specs.Prelude.{◌≡◌, ◌+◌, ◌*◌, ◌^◌};
@@ -125,6 +125,19 @@ mod tests {
         assert_eq!(rt; lines.row(0), line(4, 0, 0));
         lines.clear();
         assert_eq!(rt; lines.len(), 0);
+        Ok(())
+    }
+
+    // Records whose keys rise come in the place of all, and are found.
+    #[test]
+    fn loads(rt: HostRuntime) -> Result<(), Fail> {
+        let mut table = Table::new(vec![in rt.alloc(); account(0, 0); 3]?, 3);
+        assert_eq!(rt; table.insert(account(8, 80)), Ok(()));
+        table.load(&[account(4, 40), account(9, 90)]);
+        assert_eq!(rt; table.get(9), Some(account(9, 90)));
+        assert_eq!(rt; table.get(8), None);
+        assert_eq!(rt; table.insert(account(5, 50)), Ok(()));
+        assert_eq!(rt; table.row(1), account(5, 50));
         Ok(())
     }
 

@@ -13,6 +13,5 @@ pub mod Grosses
 pub mod Sizes
 pub mod Places
 pub mod CashFigures
-pub mod Scans
 pub mod Reorders
 pub mod Same

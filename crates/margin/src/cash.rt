@@ -15,8 +15,8 @@ fn shocked(currency: u16, cash: i64) -> i64
     if currency == ROUBLE { cash } else { 0 }
 }
 
-// All figures of a portfolio of cash, given by the place of its currency. It has no orders, so its worst case is its
-// first ratio.
+// All figures of a portfolio of cash, which is given by the place of its currency: a fixed array, so that a portfolio wants no
+// memory of its own. It has no orders, so its worst case is its first ratio.
 pub fn cash_figures(currencies: &[Currency], cash: &[i64; 8]) -> Figures
     ensures { length currencies.now ≤ 8 → Apart (λ c. c.code) currencies.now → result ≡ figures_of (cash_sheet currencies.now) (cash_holding (cash_by currencies.now cash.now)) }
 {

@@ -1,4 +1,4 @@
-// The register itself. Its type keeps the keys of its tables in rising order, and a sheet in force that closing accepted.
+// The register itself. Its type keeps a sheet in force that closing accepted, and its table of portfolios their numbers rising.
 ghost use Rattle.std.specs.Prelude.{◌≡◌, ◌≤◌, false, vec_len};
 ghost use Rattle.keyed.specs.Rows.{Rising};
 ghost use Rattle.margin.specs.Cash.{cash_sheet};

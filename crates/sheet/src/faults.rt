@@ -1,4 +1,5 @@
-// What refuses an entry, a closing or a putting in force. It holds a field's fault whole.
+// What refuses an entry, a closing or a putting in force. It holds a field's fault whole, by a type of its own that names the
+// layer below.
 ghost use Rattle.std.specs.Prelude.{◌≡◌};
 ghost use Rattle.sheet.specs.declared.faults.SheetFault.TheVariants.{Field as InField};
 ghost use Rattle.sheet.specs.Faults.{refusal, of_table, sheet_number, sheet_place, sheet_at};

@@ -28,7 +28,7 @@ pub trait RateRow: Keyed<Key = u16> + Copy {
     fn blank() -> Self
         ensures { Self.Keyed.key result ≡ 0 };
 
-    // The row of a rate whose numbers are in their ranges.
+    // The row of a rate whose numbers are in their ranges. No TryFrom, since a trait's bound cannot name the trait's own type.
     fn checked(rate: Self::Rate) -> Result<Self, FieldFault>
         ensures { Checked Self.Keyed.key pieces (says rate) result };
 

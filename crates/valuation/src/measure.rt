@@ -1,4 +1,5 @@
-// What lines and currencies count for: at the sheet's price, at their worth, or at the least that they can come to.
+// What lines and currencies count for: at the sheet's price, at their worth, or at the least that they can come to. An
+// instrument and a line meet only where a code is looked up, so no type holds the two.
 ghost use Rattle.std.specs.Prelude.{◌≡◌, ℕ, ◌*◌, ◌^◌, ◌≤◌, List, ℤ, unsigned_abs};
 ghost use Rattle.margin.specs.declared.Instrument as instruments;
 ghost use Rattle.margin.specs.declared.Order as orders;

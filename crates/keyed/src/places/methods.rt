@@ -41,7 +41,8 @@ impl<R: Copy> Places<R> {
         self.limit <= self.len()
     }
 
-    // The record at a place.
+    // The record at a place. Each method asks of its own place that a record stands there: a type of such places would hold of
+    // one table at one moment.
     pub fn row(&self, at: usize) -> R
         requires { at < length (records self.now) }
         ensures { result ≡ slice_index_or (records self.now) at result }

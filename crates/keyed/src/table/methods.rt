@@ -1,4 +1,4 @@
-ghost use Rattle.std.specs.Prelude.{◌≡◌, ◌<◌, min, false, length, IfSome, Some, None, vec_len, nat_le, slice_index_or};
+ghost use Rattle.std.specs.Prelude.{◌≡◌, ◌<◌, ◌≤◌, min, false, length, IfSome, Some, None, vec_len, nat_le, slice_index_or};
 ghost use Rattle.keyed.specs.Rows.{Rising, Gap, Stands, ranked_between};
 ghost use Rattle.keyed.specs.Laws.{Under};
 ghost use Rattle.keyed.specs.Tables.{no_place, entries, room, holds, Located, Sets, Inserts, Replaces, Fresh};
@@ -120,6 +120,16 @@ impl<R: Keyed + Copy> Table<R> {
             }
             Err(at) => self.put_in(at, row),
         }
+    }
+
+    // Puts records whose keys rise in the place of all that there are.
+    pub fn load(&mut self, rows: &[R])
+        requires fits { length rows.now ≤ room self.old }
+        requires rise { Rising R.Keyed.key rows.now }
+        ensures records { entries self.new ≡ rows.now }
+        ensures room { room self.new ≡ room self.old }
+    {
+        self.rows.load(rows);
     }
 
     // Takes every record out.
