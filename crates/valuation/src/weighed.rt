@@ -55,7 +55,8 @@ impl Weighed {
         let mut sum: u128 = 0;
         for order in orders.orders {
             if self.stake.code == order.code {
-                sum += self.loss(*order);
+                let lost = self.loss(*order);
+                sum += lost;
             }
         }
         sum

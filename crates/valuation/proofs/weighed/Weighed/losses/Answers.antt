@@ -15,6 +15,6 @@ loop-order-preserved c =
     let l = loss c.args.self.stake.price c.args.self.piece.weight o in
     let e = count_more (λ o. cond (on c.args.self.stake.code o) (loss c.args.self.stake.price c.args.self.piece.weight o) 0) c.args.orders.now.orders.now c.loop-order.order-index d c.loop-order-test.true in
     elim c.if-self-order.branch [
-      | then-self-order w ↦ (omega (arith, e, cond-true (eqb c.args.self.stake.code o.code) l 0 (eq-eqb _ _ w.if-self-order.true), w.loss-sum.ensures.is, w.sum-is), omega (arith, w.loss-sum.ensures.small, w.sum-is))
+      | then-self-order w ↦ (omega (arith, e, cond-true (eqb c.args.self.stake.code o.code) l 0 (eq-eqb _ _ w.if-self-order.true), w.loss-lost.ensures.is, w.sum-is), omega (arith, w.loss-lost.ensures.small, w.sum-is))
       | else-self-order w ↦ (omega (arith, e, cond-false (eqb c.args.self.stake.code o.code) l 0 (ne_eqb _ _ w.if-self-order.false), w.sum-is), omega (arith, w.sum-is))
     ]
