@@ -41,7 +41,7 @@ pub(crate) fn least<S: RateSource>(source: &S, stake: Stake, orders: &Orders) ->
     best
 }
 
-// Rounded down; 0 where there is none.
+// Rounded down; 0 where there is none. A closure, since a function of another crate is not passed by its name.
 pub(crate) fn floored(best: Option<i128>) -> i128
     ensures { result ≡ floored best }
 {

@@ -8,6 +8,13 @@ use Rattle.margin.proofs.Places.{by_place_turn, by_place_end}
 use Rattle.margin.proofs.CashFigures.{valued, at_risk, cash_figures_are}
 use Rattle.margin.proofs.cash.cash_figures.Goals as goal
 
+pub overflow_add-value : goal.overflow_add-value
+overflow_add-value c =
+    let first : iter_rest (zip_first c.into_iter-currency-iterator.result) ≡ c.args.currencies.now = search rules in
+    let second : iter_rest (zip_second c.into_iter-currency-iterator.result) ≡ c.args.cash.now = search rules in
+    let turn = by_place_turn valued _ _ _ _ _ c.next.new.self _ first second c.loop-currency.yielded_by c.next.ensures.steps (c.in-Some.currency, c.in-Some.cash) c.in-Some.is in
+    omega (arith, ints)
+
 pub overflow_add-first : goal.overflow_add-first
 overflow_add-first c =
     let first : iter_rest (zip_first c.into_iter-currency-iterator.result) ≡ c.args.currencies.now = search rules in

@@ -3,11 +3,6 @@ use mir.Syntax.{w128}
 use Rattle.margin.proofs.Sizes.{roubles_size, size_fits}
 use Rattle.margin.proofs.roubles.wide_in_roubles.Goals as goal
 
-pub overflow_mul-amount : goal.overflow_mul-amount
-overflow_mul-amount c =
-    let f : SFits w128 (c.args.amount *ℤ pos c.args.fx) = size_fits w128 _ (omega (arith, roubles_size c.args.amount c.args.fx (omega arith))) in
-    search rules
-
 pub returns : goal.returns
 returns c =
     let size = roubles_size c.args.amount c.args.fx (omega arith) in
