@@ -1,4 +1,4 @@
-// What a portfolio is worth and how large it is, over slices and whatever source of rates.
+// What a portfolio is worth and how large it is, over whatever source of rates.
 #![tactic(auto)]
 
 mod limits;
