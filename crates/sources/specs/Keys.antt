@@ -4,7 +4,7 @@ use Rattle.sources.specs.declared.posted.PostedRow.{PostedRow}
 use Rattle.sources.specs.declared.stepped.SteppedRow.{SteppedRow}
 
 abbrev pub posted_code : PostedRow → ℕ
-posted_code r = r.code
+posted_code r = r.rate.code
 
 abbrev pub stepped_code : SteppedRow → ℕ
-stepped_code r = r.code
+stepped_code r = r.rate.code

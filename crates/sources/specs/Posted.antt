@@ -15,7 +15,7 @@ abbrev pub posted_pieces : ℕ → ℕ → List Piece
 posted_pieces plus minus = lighter plus 0 ∷ heavier minus 0 ∷ []
 
 abbrev pub of_posted : PostedRow → List Piece
-of_posted r = posted_pieces r.plus r.minus
+of_posted r = posted_pieces r.rate.plus r.rate.minus
 
 -- what the numbers of a rate say
 abbrev pub posted_says : PostedRate → Said

@@ -25,7 +25,7 @@ stepped_pieces s1 s2 s3 k1 k2 =
     lighter s1 0 ∷ lighter s2 a2 ∷ lighter s3 a3 ∷ heavier s1 0 ∷ heavier s2 a2 ∷ heavier s3 a3 ∷ []
 
 abbrev pub of_stepped : SteppedRow → List Piece
-of_stepped r = stepped_pieces r.s1 r.s2 r.s3 r.k1 r.k2
+of_stepped r = stepped_pieces r.rate.s1 r.rate.s2 r.rate.s3 r.rate.k1 r.rate.k2
 
 -- what the numbers of a rate say
 abbrev pub stepped_says : SteppedRate → Said

@@ -13,11 +13,9 @@ pub type PostedRates = Rates<PostedRow>;
 // How far below and above 10,000 the two weights of a code lie.
 #[derive(Clone, Copy)]
 pub struct PostedRow {
-    code: u16,
-    plus: u16,
-    minus: u16,
-    ghost low: { plus ≤ 10_000 },
-    ghost high: { minus ≤ 10_000 },
+    rate: PostedRate,
+    ghost low: { rate.plus ≤ 10_000 },
+    ghost high: { rate.minus ≤ 10_000 },
 }
 
 impl Keyed for PostedRow {
@@ -28,7 +26,7 @@ impl Keyed for PostedRow {
     ghost key = { posted_code };
 
     fn key(&self) -> u16 {
-        self.code
+        self.rate.code
     }
 }
 
@@ -51,23 +49,23 @@ impl RateRow for PostedRow {
     ghost lawful = { posted_row_lawful };
 
     fn blank() -> PostedRow {
-        PostedRow {
+        let rate = PostedRate {
             code: 0,
             plus: 0,
             minus: 0,
-        }
+        };
+        PostedRow { rate }
     }
 
     fn checked(rate: PostedRate) -> Result<PostedRow, FieldFault> {
         rate.check(0)?;
-        let PostedRate { code, plus, minus } = rate;
-        Ok(PostedRow { code, plus, minus })
+        Ok(PostedRow { rate })
     }
 
     fn piece(&self, k: usize) -> Option<Piece> {
         match k {
-            1 => Some(lighter(self.plus, 0)),
-            2 => Some(heavier(self.minus, 0)),
+            1 => Some(lighter(self.rate.plus, 0)),
+            2 => Some(heavier(self.rate.minus, 0)),
             _ => None,
         }
     }

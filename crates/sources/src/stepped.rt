@@ -13,17 +13,12 @@ pub type SteppedRates = Rates<SteppedRow>;
 // The rates of three steps, and the limits at which the second and the third begin.
 #[derive(Clone, Copy)]
 pub struct SteppedRow {
-    code: u16,
-    s1: u16,
-    s2: u16,
-    s3: u16,
-    k1: u32,
-    k2: u32,
-    ghost rises: { s1 ≤ s2 },
-    ghost again: { s2 ≤ s3 },
-    ghost whole: { s3 ≤ 10_000 },
-    ghost limits: { k1 ≤ k2 },
-    ghost bounded: { k2 < 2 ^ 32 },
+    rate: SteppedRate,
+    ghost rises: { rate.s1 ≤ rate.s2 },
+    ghost again: { rate.s2 ≤ rate.s3 },
+    ghost whole: { rate.s3 ≤ 10_000 },
+    ghost limits: { rate.k1 ≤ rate.k2 },
+    ghost bounded: { rate.k2 < 2 ^ 32 },
 }
 
 impl SteppedRow {
@@ -32,16 +27,16 @@ impl SteppedRow {
 
     // The allowance of the second step.
     fn second(&self) -> u64
-        ensures { result ≡ second self.now.s1 self.now.s2 self.now.k1 }
+        ensures { result ≡ second self.now.rate.s1 self.now.rate.s2 self.now.rate.k1 }
     {
-        u64::from(self.k1) * u64::from(self.s2 - self.s1)
+        u64::from(self.rate.k1) * u64::from(self.rate.s2 - self.rate.s1)
     }
 
     // The allowance of the third step.
     fn third(&self) -> u64
-        ensures { result ≡ third self.now.s1 self.now.s2 self.now.s3 self.now.k1 self.now.k2 }
+        ensures { result ≡ third self.now.rate.s1 self.now.rate.s2 self.now.rate.s3 self.now.rate.k1 self.now.rate.k2 }
     {
-        self.second() + u64::from(self.k2) * u64::from(self.s3 - self.s2)
+        self.second() + u64::from(self.rate.k2) * u64::from(self.rate.s3 - self.rate.s2)
     }
 }
 
@@ -53,7 +48,7 @@ impl Keyed for SteppedRow {
     ghost key = { stepped_code };
 
     fn key(&self) -> u16 {
-        self.code
+        self.rate.code
     }
 }
 
@@ -76,44 +71,30 @@ impl RateRow for SteppedRow {
     ghost lawful = { stepped_row_lawful };
 
     fn blank() -> SteppedRow {
-        SteppedRow {
+        let rate = SteppedRate {
             code: 0,
             s1: 0,
             s2: 0,
             s3: 0,
             k1: 0,
             k2: 0,
-        }
+        };
+        SteppedRow { rate }
     }
 
     fn checked(rate: SteppedRate) -> Result<SteppedRow, FieldFault> {
         rate.check(0)?;
-        let SteppedRate {
-            code,
-            s1,
-            s2,
-            s3,
-            k1,
-            k2,
-        } = rate;
-        Ok(SteppedRow {
-            code,
-            s1,
-            s2,
-            s3,
-            k1,
-            k2,
-        })
+        Ok(SteppedRow { rate })
     }
 
     fn piece(&self, k: usize) -> Option<Piece> {
         match k {
-            1 => Some(lighter(self.s1, 0)),
-            2 => Some(lighter(self.s2, self.second())),
-            3 => Some(lighter(self.s3, self.third())),
-            4 => Some(heavier(self.s1, 0)),
-            5 => Some(heavier(self.s2, self.second())),
-            6 => Some(heavier(self.s3, self.third())),
+            1 => Some(lighter(self.rate.s1, 0)),
+            2 => Some(lighter(self.rate.s2, self.second())),
+            3 => Some(lighter(self.rate.s3, self.third())),
+            4 => Some(heavier(self.rate.s1, 0)),
+            5 => Some(heavier(self.rate.s2, self.second())),
+            6 => Some(heavier(self.rate.s3, self.third())),
             _ => None,
         }
     }
