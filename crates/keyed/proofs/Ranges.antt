@@ -1,9 +1,8 @@
 -- In a list whose keys rise, the records with keys between two numbers stand together.
-use Rattle.std.proofs.Common.{◌≡◌, ℕ, zero, suc, ◌+◌, ◌-◌, ◌<◌, ◌≤◌, max, Bool, true, false, ◌&&◌, leb, ltb, List, [], ◌∷◌, length, get_or, take, drop, filter, Result, sym, refl, ap, ◌∙◌, subst, arith}
-use Rattle.std.proofs.lemmas.List.{take_all}
+use Rattle.std.proofs.Common.{◌≡◌, ℕ, zero, suc, ◌+◌, ◌-◌, ◌<◌, ◌≤◌, max, Bool, true, false, ◌&&◌, leb, ltb, List, [], ◌∷◌, length, get_or, take, drop, filter, sym, refl, ap, ◌∙◌, arith}
 use Rattle.std.specs.List.Sorted.{IsPartitionPoint}
 use Rattle.std.proofs.lemmas.Bool.{cond-true, cond-false, and_from, and_left, and_right, le-leb, lt-leb, ltb-true, ltb-false}
-use Rattle.keyed.specs.Rows.{Rising, Sought, ranked_between}
+use Rattle.keyed.specs.Rows.{ranked_between}
 
 -- what passes a test stands together, where it is the n records from i on
 stand_together : {R : Type 0} (p : R → Bool) (xs : List R) (i n : ℕ)
@@ -26,10 +25,6 @@ stand_together p (x ∷ xs) zero zero before here after =
     ∙ sym (cond-false (p x) (x ∷ filter p xs) (filter p xs) (after 0 x (omega arith) (omega arith)))
 
 module _ {R : Type 0} (key : R → ℕ) where
-  -- a search of all places is one of the list
-  pub sought_all : (xs : List R) (q : ℕ) (r : Result ℕ ℕ) → (Rising key (take (length xs) xs) → Sought key (take (length xs) xs) q r) → Rising key xs → Sought key xs q r
-  sought_all xs q r = subst (λ (ys : List R). (Rising key ys → Sought key ys q r)) (take_all (length xs) xs (omega arith))
-
   -- where one search ends below `low`, and another beyond `high`
   pub range_is : (xs : List R) (low high i j : ℕ)
       → IsPartitionPoint (λ x. ltb (key x) low ≡ true) (λ x. ltb (key x) low ≡ false) xs i

@@ -1,9 +1,8 @@
 -- What the library's searches answer for records whose keys rise.
-use Rattle.std.proofs.Common.{◌≡◌, ℕ, ◌+◌, ◌-◌, ◌≤◌, min, ltb, List, length, take, Ok, Err, Result, sym, subst, arith}
+use Rattle.std.proofs.Common.{◌≡◌, ℕ, ◌+◌, ◌≤◌, ltb, List, length, Ok, Err, Result, sym, arith}
 use Rattle.std.specs.Ordering.{nat_cmp, ordering_index, is_lt, is_le}
 use Rattle.std.specs.List.Sorted.{IsSearchInRange, IsBinarySearchResult}
 use Rattle.std.proofs.lemmas.Cmp.{ranked}
-use Rattle.std.proofs.lemmas.List.{length-take, take_min}
 use Rattle.std.proofs.lemmas.Bool.Decides.{nat_tests}
 use Rattle.keyed.specs.Rows.{Rising, Sought}
 use Rattle.keyed.proofs.Far.{level}
@@ -21,17 +20,8 @@ tests_up_to a q = grind (arith, nat_tests)
 
 module _ {R : Type 0} (key : R → ℕ) where
   -- where a search by comparison ends
-  sought : (xs : List R) → Rising key xs → (q : ℕ) (r : Result ℕ ℕ) → IsSearchInRange r (length xs) → IsBinarySearchResult (λ y. nat_cmp (key y) q) xs r → Sought key xs q r
+  pub sought : (xs : List R) → Rising key xs → (q : ℕ) (r : Result ℕ ℕ) → IsSearchInRange r (length xs) → IsBinarySearchResult (λ y. nat_cmp (key y) q) xs r → Sought key xs q r
   sought xs up q (Ok i) within equal = record { within = within; here = λ d. ranked _ q _ (sym (equal d)) }
   sought xs up q (Err i) within parted =
       let cut = parted (λ i j d le h. ordered _ _ q (level key xs up i j d le h)) in
       record { within = within; below = λ k d l. ranked _ q _ (sym (cut.0 k d (omega arith) l)); above = λ k d l h. ranked _ q _ (sym (cut.1 k d l h)) }
-
-  -- the same of a search of the first places of a table
-  pub sought_first : (xs : List R) (used n q : ℕ) (r : Result ℕ ℕ) → n ≡ min used (length xs) → IsSearchInRange r (length (take (n - 0) xs)) → IsBinarySearchResult (λ y. nat_cmp (key y) q) (take (n - 0) xs) r
-      → IsSearchInRange r (min used (length xs)) × (Rising key (take used xs) → Sought key (take used xs) q r)
-  sought_first xs used n q r is within found =
-      let part : take (n - 0) xs ≡ take used xs = grind (arith, is, take_min used xs) in
-      let within' : IsSearchInRange r (length (take used xs)) = subst (λ (ys : List R). IsSearchInRange r (length ys)) part within in
-      let found' : IsBinarySearchResult (λ y. nat_cmp (key y) q) (take used xs) r = subst (λ (ys : List R). IsBinarySearchResult (λ y. nat_cmp (key y) q) ys r) part found in
-      (subst (IsSearchInRange r) (length-take used xs) within', λ up. sought (take used xs) up q r within' found')

@@ -4,8 +4,8 @@ ghost use Rattle.std.specs.Ordering.{nat_cmp};
 
 use std::cmp::Ordering;
 
-// What a record is found by. Keys compare as their ranks do, which no code computes; no law of `Ord` speaks of ranks, so
-// each impl states that its own `cmp` does.
+// What a record is found by. Keys compare as their ranks do, which no code computes. No law of `Ord` can say so: in a law a
+// number has no range, and pairs go by their ranks only within the ranges of their parts. So each impl proves it of its `cmp`.
 pub trait Key: Copy {
     ghost rank: { Self → ℕ };
 

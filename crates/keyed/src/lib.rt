@@ -1,11 +1,11 @@
 // Records found by their keys: on slices, on places, and in tables whose keys rise.
 #![tactic(auto)]
 
-pub mod keys;
+mod keys;
 pub mod laws;
-pub mod places;
-pub mod slices;
-pub mod table;
+mod places;
+mod slices;
+mod table;
 
 pub use keys::{Key, Keyed};
 pub use places::Places;

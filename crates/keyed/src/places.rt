@@ -1,6 +1,5 @@
-// Records on places that are all got at once, in whatever order. Of the places the first `limit` serve, and of these the
-// first `used` hold records. The count stands beside the places since `find`, `add` and `remove` share this form: they
-// serve each list of records on slices, also where its places belong to a caller.
+// Records on places that are all got at once, in whatever order: the first `limit` places serve, the first `used` of them hold
+// records. No `Vec` of records, so that `add` and `remove` are one text for these places and for a sheet's, which are a caller's.
 ghost use Rattle.std.specs.Prelude.{◌≤◌, vec_len};
 
 pub(crate) mod methods;

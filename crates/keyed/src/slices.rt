@@ -1,18 +1,17 @@
-// Slices whose first places hold records with rising keys. How many are used stands beside the slice, since the places may be
-// a caller's.
-ghost use Rattle.std.specs.Prelude.{◌≡◌, ◌+◌, ◌-◌, ◌<◌, ◌≤◌, min, length, take, drop};
+// Records on slices, with rising keys. `add` and `remove` are told how many places are used, since a free place stands behind
+// the records.
+ghost use Rattle.std.specs.Prelude.{◌≡◌, ◌+◌, ◌-◌, ◌<◌, ◌≤◌, length, take, drop};
 ghost use Rattle.std.specs.List.{insert, remove};
 ghost use Rattle.std.specs.List.Sorted.{IsSearchInRange};
 ghost use Rattle.keyed.specs.Rows.{Rising, Sought, ranked_between};
 
 use crate::keys::{Key, Keyed};
 
-// Where `key` stands among the first `used` places of a table, or else where it would.
-pub fn find<R: Keyed>(table: &[R], used: usize, key: R::Key) -> Result<usize, usize>
-    ensures within { IsSearchInRange result (min used (length table.now)) }
-    ensures sought { Rising R.Keyed.key (take used table.now) → Sought R.Keyed.key (take used table.now) (R.Key.Key.rank key) result }
+// Where `key` stands, or else where it would.
+pub fn find<R: Keyed>(rows: &[R], key: R::Key) -> Result<usize, usize>
+    ensures within { IsSearchInRange result (length rows.now) }
+    ensures sought { Rising R.Keyed.key rows.now → Sought R.Keyed.key rows.now (R.Key.Key.rank key) result }
 {
-    let rows = &table[0..used.min(table.len())];
     rows.binary_search_by(|row| row.key().compare(key))
 }
 

@@ -8,6 +8,7 @@ use crate::keys::Keyed;
 use crate::places::Places;
 use crate::slices::{find, range};
 
+// What `Places` has is handed on one by one: a `Deref` would hand out its `append` and `load` too, which may break the order.
 impl<R: Keyed + Copy> Table<R> {
     // A table with no record. Of the places at most `most` serve.
     pub fn new(places: Vec<R>, most: usize) -> Table<R>
@@ -143,8 +144,7 @@ impl<R: Keyed + Copy> Table<R> {
     fn place(&self, key: R::Key) -> Result<usize, usize>
         ensures { Located R.Keyed.key self.now (R.Key.Key.rank key) result }
     {
-        let rows = self.rows();
-        find(rows, rows.len(), key)
+        find(self.rows(), key)
     }
 
     // Where a record's key stands, or else where it would.
