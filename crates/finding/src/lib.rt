@@ -31,5 +31,5 @@ pub extern "C" fn find_row(rows: &[Row], used: usize, code: u32) -> usize
     ensures found { Rising (λ x. x.code) (take used rows.now) → result < length rows.now → Stands (λ x. x.code) (take used rows.now) code result }
     ensures missing { Rising (λ x. x.code) (take used rows.now) → length rows.now ≤ result → lookup (λ x. x.code) (take used rows.now) code ≡ None }
 {
-    keyed::find(rows, used, code).unwrap_or(rows.len())
+    keyed::find(&rows[..used.min(rows.len())], code).unwrap_or(rows.len())
 }
