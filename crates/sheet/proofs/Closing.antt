@@ -1,7 +1,7 @@
 -- The answer to a closing by what the entries are.
-use Rattle.std.proofs.Common.{◌≡◌, ℕ, ◌-◌, min, true, false, List, length, take, Ok, Err, sym, ap, subst, arith}
+use Rattle.std.proofs.Common.{◌≡◌, ℕ, min, true, false, List, length, take, Ok, Err, sym, ap, ◌∙◌, subst, arith}
 use Rattle.std.proofs.lemmas.Grind.{common_steps}
-use Rattle.book.proofs.Fronts.{taken}
+use Rattle.std.proofs.lemmas.List.{length-take}
 use Rattle.keyed.specs.Rows.{Rising}
 use Rattle.margin.specs.declared.Currency.{Currency}
 use Rattle.margin.specs.Cash.{cash_sheet}
@@ -12,25 +12,27 @@ use Rattle.sheet.specs.declared.faults.SheetFault.{SheetFault}
 use Rattle.sheet.specs.Faults.{refusal}
 use Rattle.sheet.specs.Drafts.{entries, InOrder, incomplete, draft_sheet, closes, AsClosed}
 
--- the first n entries of the table, as closing looks at them, are the draft's
-module _ (d : Draft) (table : List Currency) (n : ℕ) (few : n ≡ min d.currencies (length table)) where
-  same : incomplete (cash_sheet (take (n - 0) table)) ≡ incomplete (draft_sheet d table)
-  same = ap (λ (cs : List Currency). incomplete (cash_sheet cs)) (taken d.currencies n table (omega arith))
+module _ (d : Draft) (table xs : List Currency) (are : xs ≡ entries d table) where
+  same : incomplete (cash_sheet xs) ≡ incomplete (draft_sheet d table)
+  same = ap (λ (cs : List Currency). incomplete (cash_sheet cs)) are
 
-  pub refused : (f : SheetFault) → true ≡ incomplete (cash_sheet (take (n - 0) table)) → f ≡ refusal Incomplete → Err (f, d) ≡ closes d table
+  few : length xs ≡ min d.currencies (length table)
+  few = ap length are ∙ length-take d.currencies table
+
+  pub refused : (f : SheetFault) → true ≡ incomplete (cash_sheet xs) → f ≡ refusal Incomplete → Err (f, d) ≡ closes d table
   refused f t e = grind (arith, common_steps, same, t, e)
 
-  pub closed : false ≡ incomplete (cash_sheet (take (n - 0) table)) → Ok (record { currencies = n }) ≡ closes d table
+  pub closed : false ≡ incomplete (cash_sheet xs) → Ok (record { currencies = length xs }) ≡ closes d table
   closed t = grind (arith, common_steps, same, t, few)
 
-  pub as_closed : false ≡ incomplete (cash_sheet (take (n - 0) table)) → InOrder d table → (n ≡ d.currencies) × AsClosed (record { currencies = n }) table
+  pub as_closed : false ≡ incomplete (cash_sheet xs) → InOrder d table → (length xs ≡ d.currencies) × AsClosed (record { currencies = length xs }) table
   as_closed t o =
-      let e : n ≡ d.currencies = omega (arith, o.within) in
-      let all : take n table ≡ entries d table = ap (λ (k : ℕ). take k table) e in (
+      let e : length xs ≡ d.currencies = omega (arith, o.within, few) in
+      let all : take (length xs) table ≡ entries d table = ap (λ (k : ℕ). take k table) e in (
         e,
         record {
-          within = omega (arith, o.within);
-          few = omega (arith, o.few);
+          within = omega (arith, o.within, few);
+          few = omega (arith, o.few, few);
           rising = subst (Rising currency_code) (sym all) o.rising;
           complete = grind (arith, common_steps, same, t, all);
         },

@@ -1,10 +1,10 @@
 -- The answer to a currency entry by what a search of the table found, and the table with the entry in it.
-use Rattle.std.proofs.Common.{◌≡◌, ℕ, ◌+◌, ◌<◌, ◌≤◌, true, false, ◌||◌, List, length, take, drop, is_some, Ok, Err, sym, ap, ◌∙◌, subst, arith}
+use Rattle.std.proofs.Common.{◌≡◌, ℕ, ◌+◌, ◌<◌, ◌≤◌, true, false, ◌||◌, List, length, take, drop, is_some, Ok, Err, Result, sym, ap, ◌∙◌, subst, arith}
 use Rattle.std.specs.List.{insert}
 use Rattle.std.proofs.lemmas.Grind.{common_steps}
 use Rattle.book.specs.Ranges.{no_currency, no_fx, ranged}
 use Rattle.book.proofs.Refusals.{not_refused}
-use Rattle.keyed.specs.Rows.{Rising, lookup, Stands, Gap}
+use Rattle.keyed.specs.Rows.{Rising, lookup, Stands, Gap, Sought}
 use Rattle.keyed.proofs.Lookups.{lookup_stands, lookup_gap, rising_inserted}
 use Rattle.keyed.proofs.Puts.{inserted_is}
 use Rattle.margin.specs.declared.Currency.{Currency}
@@ -13,6 +13,10 @@ use Rattle.sheet.specs.declared.drafts.Draft.{Draft}
 use Rattle.sheet.specs.declared.faults.SheetCause.TheVariants.{Entered, Full}
 use Rattle.sheet.specs.Faults.{refusal}
 use Rattle.sheet.specs.Drafts.{entries, InOrder, most, enters, EnteredIn}
+
+-- what a search of the draft's entries finds
+pub sought : (d : Draft) (table xs : List Currency) (code : ℕ) (r : Result ℕ ℕ) → InOrder d table → xs ≡ entries d table → (Rising currency_code xs → Sought currency_code xs code r) → Sought currency_code (entries d table) code r
+sought d table xs code r o are f = subst (λ (ys : List Currency). (Rising currency_code ys → Sought currency_code ys code r)) are f o.rising
 
 -- the currency x, with its numbers in their ranges, meets a table in order
 module _ (d : Draft) (table : List Currency) (x : Currency) (u : Unit {0}) (checked : Ok u ≡ ranged (no_currency x.code || no_fx x.fx) 0) (o : InOrder d table) where

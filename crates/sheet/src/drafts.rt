@@ -1,7 +1,7 @@
 // A draft and a closed sheet: how many of the places of their tables they use.
 ghost use Rattle.std.specs.Prelude.{◌≡◌, IfOk, MatchResult};
 ghost use Rattle.margin.specs.Cash.{cash_sheet};
-ghost use Rattle.sheet.specs.Drafts.{InOrder, enters, EnteredIn, has_rouble_at_par, has_unrated, incomplete, closes, AsClosed};
+ghost use Rattle.sheet.specs.Drafts.{entries, InOrder, enters, EnteredIn, has_rouble_at_par, has_unrated, incomplete, closes, AsClosed};
 
 use crate::faults::{SheetCause, SheetFault};
 use book::check_currency;
@@ -51,6 +51,13 @@ impl Draft {
         Draft { currencies: 0 }
     }
 
+    // The entries: the first places of the table that goes with the draft.
+    fn entries<'a>(&self, table: &'a [Currency]) -> &'a [Currency]
+        ensures { result.now ≡ entries self.now table.now }
+    {
+        &table[..self.currencies.min(table.len())]
+    }
+
     // Enters a currency, in the order of codes.
     pub fn enter_currency(
         &mut self,
@@ -61,7 +68,7 @@ impl Draft {
         ensures tables { MatchResult result (λ _. InOrder self.old table.old → EnteredIn self.old table.old currency.code currency.fx self.new table.new) (λ _. (self.new ≡ self.old) × (table.new ≡ table.old)) }
     {
         check_currency(currency.code, currency.fx, 0)?;
-        let Err(at) = find(table, self.currencies, currency.code) else {
+        let Err(at) = find(self.entries(table), currency.code) else {
             return Err(SheetCause::Entered.into());
         };
         if self.currencies >= table.len().min(MOST_CURRENCIES) {
@@ -77,13 +84,14 @@ impl Draft {
         ensures answer { result ≡ closes self table.now }
         ensures closed { InOrder self table.now → IfOk result (λ c. (c.currencies ≡ self.currencies) × AsClosed c table.now) }
     {
-        let currencies = self.currencies.min(table.len());
-        let entries = &table[0..currencies];
+        let entries = self.entries(table);
         if is_incomplete(entries) {
             return Err((SheetCause::Incomplete.into(), self));
         }
         let Draft { currencies: _ } = self;
-        Ok(ClosedSheet { currencies })
+        Ok(ClosedSheet {
+            currencies: entries.len(),
+        })
     }
 
     // Ends a draft that is not wanted any more. It has no `Drop`, so that none is lost unseen.

@@ -1,5 +1,5 @@
-// What refuses an entry, a closing or a putting in force. It holds a field's fault whole, by a type of its own that names the
-// layer below.
+// What refuses an entry, a closing or a putting in force. It holds a field's fault whole, and is a type of its own: its variants
+// name the layer below.
 ghost use Rattle.std.specs.Prelude.{◌≡◌};
 ghost use Rattle.sheet.specs.declared.faults.SheetFault.TheVariants.{Field as InField};
 ghost use Rattle.sheet.specs.Faults.{refusal, of_table, sheet_number, sheet_place, sheet_at};

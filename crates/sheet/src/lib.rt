@@ -1,4 +1,4 @@
-// A sheet of prices and rates: a draft takes entries until it is closed, and only a closed sheet can be put in force.
+// A sheet of rates: a draft takes currencies until it is closed, and only a closed sheet can be put in force.
 #![tactic(auto)]
 
 mod drafts;
