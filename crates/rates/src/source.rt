@@ -4,7 +4,8 @@ ghost use Rattle.rates.specs.Pieces.{Lawful, from_one};
 
 use margin::Piece;
 
-// A source means a fixed list of pieces for each code that it knows.
+// A source means a fixed list of pieces for each code that it knows. It hands out a count and one piece at a time, by its
+// place from 1, so that it needs no memory to answer.
 pub trait RateSource {
     // How many pieces a code may have.
     const MOST: usize;

@@ -6,7 +6,7 @@ use Rattle.margin.specs.declared.Order.{Order}
 use Rattle.margin.specs.declared.Piece.{Piece}
 use Rattle.margin.specs.Keys.{instrument_code}
 use Rattle.margin.specs.Sheets.{Sheet}
-use Rattle.margin.specs.Holdings.{Holding, worth, pieces_of, counted, shocked}
+use Rattle.margin.specs.Holdings.{Holding, counted, shocked}
 use Rattle.margin.specs.Fillings.{low}
 use Rattle.valuation.specs.declared.line.Line.{Line}
 
@@ -18,12 +18,9 @@ any_sheet pieces = record { currencies = []; instruments = []; pieces = pieces }
 abbrev pub one_line : ℤ → List Order → Holding
 one_line q os = record { cash = λ _. pos 0; planned = λ _. q; lines = []; orders = os }
 
--- what so many units count for: at the sheet's price, at their worth, or at the least that they can come to
+-- what so many units count for: at the sheet's price, or at the least that they can come to
 abbrev pub net_value : (ℕ → List Piece) → List Order → Instrument → ℤ → ℤ
 net_value pieces os i q = counted (any_sheet pieces) i q *ℤ pos i.price
-
-abbrev pub worth_value : (ℕ → List Piece) → List Order → Instrument → ℤ → ℤ
-worth_value pieces os i q = worth (pieces_of (any_sheet pieces) i) i.price q
 
 abbrev pub low_value : (ℕ → List Piece) → List Order → Instrument → ℤ → ℤ
 low_value pieces os i q = low (any_sheet pieces) (one_line q os) i
@@ -39,6 +36,11 @@ shocked_value pieces c e = shocked (any_sheet pieces) c e
 abbrev pub of : {X : Type 0} → (X → ℤ) → Option X → ℤ
 of f None = pos 0
 of f (Some x) = f x
+
+-- the instrument that was found, where it is priced in the currency c
+abbrev pub in_currency : ℕ → Option Instrument → Option Instrument
+in_currency c None = None
+in_currency c (Some i) = cond (c == i.currency) (Some i) None
 
 -- the value of a line that is priced in the currency c
 abbrev pub value_in : (Instrument → ℤ → ℤ) → List Instrument → ℕ → Line → ℤ

@@ -26,11 +26,9 @@ impl<'a> Listing<'a> {
         ensures is { result ≡ gross_in orders.now.orders.now self.now.instruments.now currency line }
         ensures small { result ≤ 2 ^ 78 }
     {
-        match self.at(line.code) {
-            Some(instrument) if currency == instrument.currency => {
-                gross_of_line(instrument, line, orders)
-            }
-            _ => 0,
+        match self.priced_in(line.code, currency) {
+            Some(instrument) => gross_of_line(instrument, line, orders),
+            None => 0,
         }
     }
 

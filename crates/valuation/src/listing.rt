@@ -2,6 +2,7 @@
 ghost use Rattle.std.specs.Prelude.{◌≡◌};
 ghost use Rattle.keyed.specs.Rows.{Rising, lookup};
 ghost use Rattle.margin.specs.Keys.{instrument_code};
+ghost use Rattle.valuation.specs.Values.{in_currency};
 
 use keyed::find;
 use margin::Instrument;
@@ -19,5 +20,13 @@ impl<'a> Listing<'a> {
     {
         let at = find(self.instruments, self.instruments.len(), code).ok()?;
         Some(self.instruments[at])
+    }
+
+    // The instrument of a code, where it is priced in the currency.
+    pub(crate) fn priced_in(&self, code: u16, currency: u16) -> Option<Instrument>
+        ensures { result ≡ in_currency currency (lookup instrument_code self.now.instruments.now code) }
+    {
+        self.at(code)
+            .filter(|instrument| currency == instrument.currency)
     }
 }

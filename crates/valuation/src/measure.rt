@@ -1,14 +1,14 @@
-// What lines and currencies count for: at the sheet's price, at their worth, or at the least that they can come to. An
+// What lines and currencies count for: at the sheet's price, or at the least that they can come to. An
 // instrument and a line meet only where a code is looked up, so no type holds the two.
 ghost use Rattle.std.specs.Prelude.{◌≡◌, ℕ, ◌*◌, ◌^◌, ◌≤◌, List, ℤ, unsigned_abs};
 ghost use Rattle.margin.specs.declared.Instrument as instruments;
 ghost use Rattle.margin.specs.declared.Order as orders;
 ghost use Rattle.margin.specs.declared.Piece as pieces;
-ghost use Rattle.valuation.specs.Values.{net_value, worth_value, low_value, unshocked, shocked_value};
+ghost use Rattle.valuation.specs.Values.{net_value, low_value, unshocked, shocked_value};
 
 use crate::line::Line;
 use crate::orders::Orders;
-use crate::risk::{low, net, shocked, worth};
+use crate::risk::{low, net, shocked};
 use margin::Instrument;
 use rates::RateSource;
 
@@ -52,27 +52,6 @@ impl Measure for Net {
 
     fn shock<S: RateSource>(_source: &S, _currency: u16, amount: i128) -> i128 {
         amount
-    }
-}
-
-pub(crate) struct Worth;
-
-impl Measure for Worth {
-    ghost line_value = { worth_value };
-
-    ghost shock = { shocked_value };
-
-    fn line_value<S: RateSource>(
-        source: &S,
-        instrument: Instrument,
-        line: Line,
-        _orders: &Orders,
-    ) -> i128 {
-        worth(source, instrument, line)
-    }
-
-    fn shock<S: RateSource>(source: &S, currency: u16, amount: i128) -> i128 {
-        shocked(source, currency, amount)
     }
 }
 

@@ -1,4 +1,4 @@
-// What a portfolio holds, with its cash by the places of the currencies.
+// What a portfolio holds.
 use crate::lines::Lines;
 use crate::orders::Orders;
 
@@ -6,5 +6,6 @@ use crate::orders::Orders;
 pub struct Portfolio<'a> {
     pub lines: Lines<'a>,
     pub orders: Orders<'a>,
+    // A fixed array by the place of the currency: a portfolio wants no memory of its own.
     pub cash: &'a [i64; 8],
 }

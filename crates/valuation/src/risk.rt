@@ -93,15 +93,14 @@ pub fn shocked<S: RateSource>(source: &S, currency: u16, amount: i128) -> i128
 }
 
 // Off the liquid list a long position counts for nothing.
-fn counted(kind: Kind, planned: i64) -> i64
-    requires { unsigned_abs planned ≤ 200_000_000_000 }
-    ensures is { result ≡ (if off_list kind && below (pos 0) planned then pos 0 else planned) }
+fn counted(kind: Kind, line: Line) -> i64
+    ensures is { result ≡ (if off_list kind && below (pos 0) line.planned then pos 0 else line.planned) }
     ensures small { unsigned_abs result ≤ 200_000_000_000 }
 {
-    if is_off_list(kind) && planned > 0 {
+    if is_off_list(kind) && line.planned > 0 {
         0
     } else {
-        planned
+        line.planned
     }
 }
 
@@ -110,5 +109,5 @@ pub(crate) fn net(instrument: Instrument, line: Line) -> i128
     ensures is { result ≡ (if off_list instrument.kind && below (pos 0) line.planned then pos 0 else line.planned) *ℤ pos instrument.price }
     ensures small { unsigned_abs result ≤ 10 ^ 24 }
 {
-    i128::from(counted(instrument.kind, line.planned)) * i128::from(instrument.price)
+    i128::from(counted(instrument.kind, line)) * i128::from(instrument.price)
 }

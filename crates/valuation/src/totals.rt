@@ -9,7 +9,7 @@ ghost use Rattle.valuation.specs.Markets.{sheet_in, holding_in};
 
 use crate::line::Line;
 use crate::market::Market;
-use crate::measure::{Low, Measure, Net, Worth};
+use crate::measure::{Low, Measure, Net};
 use crate::orders::Orders;
 use crate::portfolio::Portfolio;
 use margin::{Currency, Figures, figures_from, wide_in_roubles};
@@ -21,12 +21,10 @@ impl<'a, S: RateSource> Market<'a, S> {
         ensures is { let pieces = S.RateSource.pieces self.now.source.now in result ≡ value_in (M.Measure.line_value pieces orders.now.orders.now) self.now.listing.instruments.now currency line }
         ensures small { unsigned_abs result ≤ 10 ^ 24 }
     {
-        match self.listing.at(line.code) {
-            Some(instrument) if currency == instrument.currency => {
-                M::line_value(self.source, instrument, line, orders)
-            }
-            _ => 0,
-        }
+        self.listing.priced_in(line.code, currency).map_or(
+            0,
+            |instrument| M::line_value(self.source, instrument, line, orders),
+        )
     }
 
     // Cash and the values of a currency's lines.
@@ -76,7 +74,11 @@ impl<'a, S: RateSource> Market<'a, S> {
         ensures is { result ≡ first_ratio (sheet_in S.RateSource.pieces self.now) (holding_in self.now.currencies.now portfolio.now) }
         ensures small { unsigned_abs result ≤ 2 ^ 120 }
     {
-        self.figure::<Worth>(portfolio)
+        let orders = Orders { orders: &[] };
+        self.figure::<Low>(&Portfolio {
+            orders,
+            ..*portfolio
+        })
     }
 
     // The worst case of a portfolio: the least first ratio over all fillings of its orders.
