@@ -18,7 +18,7 @@ impl<'a> Listing<'a> {
     pub(crate) fn at(&self, code: u16) -> Option<Instrument>
         ensures { result ≡ lookup instrument_code self.now.instruments.now code }
     {
-        let at = find(self.instruments, self.instruments.len(), code).ok()?;
+        let at = find(self.instruments, code).ok()?;
         Some(self.instruments[at])
     }
 
