@@ -1,5 +1,5 @@
 -- Opening and putting in force, as the beginning and a step of a history.
-use Rattle.std.proofs.Common.{◌≡◌, ℕ, Bool, true, false, not, ◌||◌, eqb, List, [], ◌∷◌, pos, is_some, IfOk, Some, None, Ok, Err, Option, Result, sym, refl, ap, ◌∙◌, subst, arith, MatchResult}
+use Rattle.std.proofs.Common.{◌≡◌, ℕ, Bool, true, false, not, ◌||◌, eqb, List, [], ◌∷◌, pos, is_some, Some, None, Ok, Err, Option, Result, sym, refl, ap, ◌∙◌, subst, arith, MatchResult}
 use Rattle.std.proofs.lemmas.Bool.{eqb-true, and_parts, or_parts, both_ways, cond-true, cond-false}
 use Rattle.keyed.specs.Rows.{Rising}
 use Rattle.margin.specs.declared.Currency.{Currency}
@@ -71,7 +71,7 @@ no_cash : (cs : List Currency) (o : Option Portfolio) (k : ℕ) → is_some o �
 no_cash cs None k e = refl
 no_cash cs (Some x) k e = absurd (both_ways true e refl)
 
-begins_run : (c : ClosedSheet) (table : List Currency) (n : ℕ) (t : Register) (room : Places) → AsClosed c table → Begins (cash_sheet (closed_entries c table)) n t → room.portfolios ≡ n →
+pub begins_run : (c : ClosedSheet) (table : List Currency) (n : ℕ) (t : Register) (room : Places) → AsClosed c table → Begins (cash_sheet (closed_entries c table)) n t → room.portfolios ≡ n →
     Run (opened_with (cash_sheet (closed_entries c table)) room) t
 begins_run c table n t room A b e = run _ t (record {
   closed = closed_sheet (closed_entries c table) A.rising A.complete;
@@ -87,12 +87,6 @@ begins_run c table n t room A b e = run _ t (record {
     places = e ∙ sym b.places;
   };
 })
-
-pub begun_run : {E : Type 0} (c : ClosedSheet) (table : List Currency) (n : ℕ) (a : Result Register (E × ClosedSheet)) → AsClosed c table →
-    MatchResult a (λ t. Begins (cash_sheet (closed_entries c table)) n t) (λ x. x.1 ≡ c) →
-    IfOk a (λ t. (room : Places) → room.portfolios ≡ n → Run (opened_with (cash_sheet (closed_entries c table)) room) t)
-begun_run c table n (Ok t) A b = λ room e. begins_run c table n t room A b e
-begun_run c table n (Err x) A b = tt
 
 -- ---- putting in force
 none_of : (f : ℕ → Bool) → ((j : ℕ) → f j ≡ false) → (js : List ℕ) → any f js ≡ false

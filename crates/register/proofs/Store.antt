@@ -1,7 +1,7 @@
 -- What the table of portfolios holds after a change.
-use Rattle.std.proofs.Common.{◌≡◌, ℕ, ◌+◌, Bool, true, false, cond, ◌||◌, eqb, List, length, replicate, ℤ, pos, is_some, Some, None, Ok, Err, vec_items, Option, Result, Vec, sym, refl, ap, ◌∙◌, subst, ⊎_elim, arith}
+use Rattle.std.proofs.Common.{◌≡◌, ℕ, ◌+◌, leb, Bool, true, false, cond, ◌||◌, eqb, List, length, replicate, ℤ, pos, is_some, Some, None, Ok, Err, vec_items, Option, Result, Vec, sym, refl, ap, ◌∙◌, subst, ⊎_elim, arith}
 use Rattle.std.specs.Option.{option_map, option_to_list}
-use Rattle.std.proofs.lemmas.Bool.{cases_eq, eq-eqb, ne_eqb, eqb-true, cond-true, cond-false, both_ways}
+use Rattle.std.proofs.lemmas.Bool.{leb-false, cases_eq, eq-eqb, ne_eqb, eqb-true, cond-true, cond-false, both_ways}
 use Rattle.std.specs.declared.alloc.Global.{Global}
 use Rattle.margin.specs.declared.Currency.{Currency}
 use Rattle.margin.specs.Cash.{cash_sheet, cash_by}
@@ -13,8 +13,13 @@ use Rattle.keyed.proofs.Changes.{sized}
 use Rattle.register.specs.Keys.{portfolio_number}
 use Rattle.register.specs.declared.records.Portfolio.{Portfolio}
 use Rattle.register.specs.declared.state.Register.{Register}
-use Rattle.register.specs.State.{currencies, portfolio, is_open, cash_in}
-use Rattle.register.specs.Writes.{Writes, Adds, cash_of}
+use Rattle.book.specs.Ranges.{no_portfolio}
+use Rattle.register.specs.declared.faults.RegisterCause.TheVariants.{PortfolioExists, NoPlace}
+use Rattle.register.specs.declared.faults.RegisterFault.{RegisterFault}
+use Rattle.register.specs.Faults.{out_of_range, refusal}
+use Rattle.register.specs.State.{currencies, portfolio, is_open, cash_in, open_count, places, Opens}
+use Rattle.register.specs.Answers.{opens}
+use Rattle.register.specs.Writes.{Writes, cash_of}
 use Rattle.register.proofs.CashPlaces.{cash_none}
 
 -- how many records there are after one is put in
@@ -57,21 +62,29 @@ no_cash : (cs : List Currency) (b : Bool) (x : Portfolio) (o : Option Portfolio)
 no_cash cs true x o k e n = ap (λ (zs : List ℤ). cash_by cs zs k) e ∙ cash_none cs 8 k ∙ sym (ap (λ (p : Option Portfolio). cash_in cs p k) (n refl))
 no_cash cs false x o k e n = refl
 
-module _ (s t : Register) (x : Portfolio) (same : t.currencies ≡ s.currencies) (none : x.cash ≡ replicate 8 (pos 0)) where
-  pub added : (a : Result (Unit {0}) Refusal) → Inserts portfolio_number s.portfolios t.portfolios x a → Adds s x.number a t
+-- what passes three checks
+past_three : (a b d : Bool) (f g k : RegisterFault) (done : Result (Unit {0}) RegisterFault) → done ≡ cond a (Err f) (cond b (Err g) (cond d (Err k) done)) → done ≡ Ok tt → (b ≡ false) × (d ≡ false)
+past_three true b d f g k done e is = let n : ◌≡◌ {A = ℕ} 0 1 = cc in absurd (omega arith)
+past_three false true d f g k done e is = let n : ◌≡◌ {A = ℕ} 0 1 = cc in absurd (omega arith)
+past_three false false true f g k done e is = let n : ◌≡◌ {A = ℕ} 0 1 = cc in absurd (omega arith)
+past_three false false false f g k done e is = (refl, refl)
+
+module _ (s t : Register) (x : Portfolio) (same : t.currencies ≡ s.currencies) (none : x.cash ≡ replicate 8 (pos 0)) (may : opens s x.number ≡ Ok tt) where
+  passed : (is_open s x.number ≡ false) × (leb (places s) (open_count s) ≡ false)
+  passed = past_three (no_portfolio x.number) (is_open s x.number) (leb (places s) (open_count s)) out_of_range (refusal PortfolioExists) (refusal NoPlace) (Ok tt) (sym may) refl
+
+  pub added : (a : Result (Unit {0}) Refusal) → Inserts portfolio_number s.portfolios t.portfolios x a → Opens s x.number t
   added (Ok u) h =
-      let cs = ap (λ (v : Vec Currency Global). vec_items v) same in (
-        h.1,
-        record {
-          sheet = ap cash_sheet cs;
-          «open» = λ j. ap is_some (found_after s.portfolios t.portfolios x h.2 j) ∙ none_open (eqb j x.number) x (portfolio s j);
-          cash = λ j k.
-              ap (λ (l : List Currency). cash_in l (portfolio t j) k) cs
-              ∙ ap (λ (o : Option Portfolio). cash_in (currencies s) o k) (found_after s.portfolios t.portfolios x h.2 j)
-              ∙ no_cash (currencies s) (eqb j x.number) x (portfolio s j) k none (λ b. ap (portfolio s) (eqb-true j x.number b) ∙ h.0);
-          count = omega (arith, count_after s.portfolios t.portfolios x None s.portfolios.rising h.0 h.2);
-          places = h.2.room;
-        },
-      )
-  added (Err Taken) h = (h.0, record { currencies = same; portfolios = h.1 })
-  added (Err Full) h = (h.1, record { currencies = same; portfolios = h.2 })
+      let cs = ap (λ (v : Vec Currency Global). vec_items v) same in
+      record {
+        sheet = ap cash_sheet cs;
+        «open» = λ j. ap is_some (found_after s.portfolios t.portfolios x h.2 j) ∙ none_open (eqb j x.number) x (portfolio s j);
+        cash = λ j k.
+            ap (λ (l : List Currency). cash_in l (portfolio t j) k) cs
+            ∙ ap (λ (o : Option Portfolio). cash_in (currencies s) o k) (found_after s.portfolios t.portfolios x h.2 j)
+            ∙ no_cash (currencies s) (eqb j x.number) x (portfolio s j) k none (λ b. ap (portfolio s) (eqb-true j x.number b) ∙ h.0);
+        count = omega (arith, count_after s.portfolios t.portfolios x None s.portfolios.rising h.0 h.2);
+        places = h.2.room;
+      }
+  added (Err Taken) h = absurd (both_ways (is_open s x.number) passed.0 h.0)
+  added (Err Full) h = absurd (omega (arith, leb-false _ _ passed.1, h.1))

@@ -20,6 +20,11 @@ use Rattle.register.specs.declared.state.Register.{Register}
 use Rattle.register.specs.Faults.{out_of_range, refusal}
 use Rattle.register.specs.State.{currencies, in_force, is_open, cash, holding, open_count, places}
 
+-- whether it is refused, of a result with a value
+abbrev pub without_value : {X : Type 0} → Result X RegisterFault → Result (Unit {0}) RegisterFault
+without_value (Ok x) = Ok tt
+without_value (Err f) = Err f
+
 abbrev pub opens : Register → ℕ → Result (Unit {0}) RegisterFault
 opens r p =
     first_of (

@@ -1,11 +1,9 @@
 -- What writing the cash of a portfolio does.
-use Rattle.std.specs.Prelude.{◌≡◌, ℕ, ◌<◌, ◌≤◌, Bool, true, cond, List, ℤ, pos, Some, None, Ok, Err, Option, Result, ◌==◌, nat_lt, slice_index_or, slice_set, unsigned_abs}
+use Rattle.std.specs.Prelude.{◌≡◌, ℕ, ◌≤◌, Bool, true, cond, List, ℤ, pos, Some, None, Option, ◌==◌, nat_lt, slice_index_or, slice_set, unsigned_abs}
 use Rattle.std.specs.Option.{option_map}
-use Rattle.keyed.specs.declared.table.Refusal.{Refusal}
-use Rattle.keyed.specs.declared.table.Refusal.TheVariants.{Taken, Full}
 use Rattle.register.specs.declared.records.Portfolio.{Portfolio}
 use Rattle.register.specs.declared.state.Register.{Register}
-use Rattle.register.specs.State.{currencies, portfolio, is_open, open_count, places, Unchanged, Opens}
+use Rattle.register.specs.State.{currencies, portfolio, is_open, open_count, places, Pays}
 
 -- each amount is within the limit
 abbrev pub Small : List ℤ → Type 0
@@ -28,8 +26,7 @@ pub record Writes (r : Register) (p : ℕ) (zs : List ℤ) (t : Register) : Type
   pub count : open_count t ≡ open_count r
   pub places : places t ≡ places r
 
--- portfolio p is in, with no cash; or its number was there; or no place was free
-abbrev pub Adds : Register → ℕ → Result (Unit {0}) Refusal → Register → Type 0
-Adds r p (Ok u) t = (open_count r < places r) × Opens r p t
-Adds r p (Err Taken) t = (is_open r p ≡ true) × Unchanged r t
-Adds r p (Err Full) t = (open_count r ≡ places r) × Unchanged r t
+-- x is portfolio p with z more in currency c: writing it is the payment
+pub record Paid (r : Register) (p c : ℕ) (z : ℤ) (x : Portfolio) : Type 0 where
+  pub «open» : is_open r x.number ≡ true
+  pub writes : (t : Register) → Writes r x.number x.cash t → Pays r p c z t

@@ -1,4 +1,4 @@
-// The register itself. Its type keeps a sheet in force that closing accepted, and its table of portfolios their numbers rising.
+// The register itself. Its type keeps a sheet in force that closing accepted.
 ghost use Rattle.std.specs.Prelude.{◌≡◌, ◌≤◌, false, vec_len};
 ghost use Rattle.keyed.specs.Rows.{Rising};
 ghost use Rattle.margin.specs.Cash.{cash_sheet};

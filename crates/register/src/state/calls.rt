@@ -1,8 +1,7 @@
 // What is asked of the register. `answer` says which refusal comes, or what is answered, for every register that can
 // exist; `tables` says what it then holds. A refusal leaves it as it was. `run` says: whatever was asked and answered
 // before, if that led to the register as it stood, then with this call and its answer it leads to the register as it
-// stands, by a lawful run. That follows by one lemma from the other two clauses: so each call stands on a function with
-// those two, and the lemma is asked once, not again at each refusal.
+// stands, by a lawful run.
 ghost use Rattle.std.specs.Prelude.{◌≡◌, pos, neg_ℤ, MatchResult};
 ghost use Rattle.rules.specs.Calls as calls;
 ghost use Rattle.rules.specs.Histories.{History, asked};
@@ -22,7 +21,9 @@ impl Register {
         ensures tables { MatchResult result (λ _. Opens self.old portfolio self.new) (λ _. Unchanged self.old self.new) }
         ensures run { (h : History) → Reached h self.old → Run (asked h (calls.open_portfolio portfolio) (said result)) self.new }
     {
-        self.opening(portfolio)
+        self.check_opening(portfolio)?;
+        self.add(portfolio);
+        Ok(())
     }
 
     // Pays cash in.
@@ -31,7 +32,9 @@ impl Register {
         ensures tables { MatchResult result (λ _. Pays self.old payment.portfolio payment.currency (pos payment.amount) self.new) (λ _. Unchanged self.old self.new) }
         ensures run { (h : History) → Reached h self.old → Run (asked h (calls.pay_in payment.portfolio payment.currency payment.amount) (said result)) self.new }
     {
-        self.paying_in(payment)
+        let after = self.paid_in(payment)?;
+        self.post(after);
+        Ok(())
     }
 
     // Pays cash out.
@@ -40,7 +43,9 @@ impl Register {
         ensures tables { MatchResult result (λ _. Pays self.old payment.portfolio payment.currency (neg_ℤ (pos payment.amount)) self.new) (λ _. Unchanged self.old self.new) }
         ensures run { (h : History) → Reached h self.old → Run (asked h (calls.pay_out payment.portfolio payment.currency payment.amount) (said result)) self.new }
     {
-        self.paying_out(payment)
+        let after = self.paid_out(payment)?;
+        self.post(after);
+        Ok(())
     }
 
     // The six figures of a portfolio.
@@ -48,6 +53,7 @@ impl Register {
         ensures answer { result ≡ tells self.now portfolio }
         ensures run { (h : History) → Reached h self.now → Run (asked h (calls.figures portfolio) (said_figures result)) self.now }
     {
-        self.telling(portfolio)
+        let portfolio = self.opened(portfolio)?;
+        Ok(self.figures_of(&portfolio))
     }
 }

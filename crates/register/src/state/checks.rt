@@ -1,79 +1,78 @@
-// The checks of each call in their order, and the change where none fails. A refusal leaves the register as it was. Each call
-// has its checks one under the other, also those that another has: so its order is read in one place.
-ghost use Rattle.std.specs.Prelude.{◌≡◌, pos, neg_ℤ, MatchResult};
-ghost use Rattle.register.specs.State.{Unchanged, Opens, Pays};
-ghost use Rattle.register.specs.Answers.{opens, pays_in, pays_out, tells};
+// The checks of each call in their order, one under the other: the first that fails gives the refusal. Where none does, they
+// give what the call then writes or tells.
+ghost use Rattle.std.specs.Prelude.{◌≡◌, pos, neg_ℤ, Some, Ok, Err, IfOk, MatchResult};
+ghost use Rattle.margin.specs.Figures.{figures_of};
+ghost use Rattle.register.specs.State.{in_force, portfolio, holding};
+ghost use Rattle.register.specs.Answers.{opens, pays_in, pays_out, tells, without_value};
+ghost use Rattle.register.specs.Writes.{Paid};
 
 use super::Register;
 use crate::faults::{RegisterCause, RegisterFault};
+use crate::records::Portfolio;
 use book::{Payment, check_portfolio};
-use margin::Figures;
 
 impl Register {
-    // Opens a portfolio, with no cash.
-    pub(crate) fn opening(&mut self, portfolio: u16) -> Result<(), RegisterFault>
-        ensures answer { result ≡ opens self.old portfolio }
-        ensures tables { MatchResult result (λ _. Opens self.old portfolio self.new) (λ _. Unchanged self.old self.new) }
+    // Whether a portfolio may be opened.
+    pub(crate) fn check_opening(&self, portfolio: u16) -> Result<(), RegisterFault>
+        ensures { result ≡ opens self.now portfolio }
     {
         check_portfolio(portfolio, 0)?;
         let None = self.portfolios.get(portfolio) else {
             return Err(RegisterCause::PortfolioExists.into());
         };
-        let Ok(()) = self.add(portfolio) else {
+        let false = self.portfolios.is_full() else {
             return Err(RegisterCause::NoPlace.into());
         };
         Ok(())
     }
 
-    // Pays cash in.
-    pub(crate) fn paying_in(&mut self, payment: Payment) -> Result<(), RegisterFault>
-        ensures answer { result ≡ pays_in self.old payment.portfolio payment.currency payment.amount }
-        ensures tables { MatchResult result (λ _. Pays self.old payment.portfolio payment.currency (pos payment.amount) self.new) (λ _. Unchanged self.old self.new) }
+    // A portfolio with cash paid in.
+    pub(crate) fn paid_in(&self, payment: Payment) -> Result<Portfolio, RegisterFault>
+        ensures answer { without_value result ≡ pays_in self.now payment.portfolio payment.currency payment.amount }
+        ensures after { IfOk result (Paid self.now payment.portfolio payment.currency (pos payment.amount)) }
     {
         payment.check(0)?;
-        let Some(row) = self.portfolios.get(payment.portfolio) else {
+        let Some(before) = self.portfolios.get(payment.portfolio) else {
             return Err(RegisterCause::NoPortfolio.into());
         };
         let Some(place) = self.place_of(payment.currency) else {
             return Err(RegisterCause::CodeMissing.into());
         };
-        let Some(after) = row.moved(place, payment.amount as i64) else {
+        let Some(after) = before.moved(place, payment.amount as i64) else {
             return Err(RegisterCause::Gross.into());
         };
-        self.post(after);
-        Ok(())
+        Ok(after)
     }
 
-    // Pays cash out.
-    pub(crate) fn paying_out(&mut self, payment: Payment) -> Result<(), RegisterFault>
-        ensures answer { result ≡ pays_out self.old payment.portfolio payment.currency payment.amount }
-        ensures tables { MatchResult result (λ _. Pays self.old payment.portfolio payment.currency (neg_ℤ (pos payment.amount)) self.new) (λ _. Unchanged self.old self.new) }
+    // A portfolio with cash paid out.
+    pub(crate) fn paid_out(&self, payment: Payment) -> Result<Portfolio, RegisterFault>
+        ensures answer { without_value result ≡ pays_out self.now payment.portfolio payment.currency payment.amount }
+        ensures after { IfOk result (Paid self.now payment.portfolio payment.currency (neg_ℤ (pos payment.amount))) }
     {
         payment.check(0)?;
-        let Some(row) = self.portfolios.get(payment.portfolio) else {
+        let Some(before) = self.portfolios.get(payment.portfolio) else {
             return Err(RegisterCause::NoPortfolio.into());
         };
         let Some(place) = self.place_of(payment.currency) else {
             return Err(RegisterCause::CodeMissing.into());
         };
-        let Some(after) = row.moved(place, -(payment.amount as i64)) else {
+        let Some(after) = before.moved(place, -(payment.amount as i64)) else {
             return Err(RegisterCause::Gross.into());
         };
-        let false = self.is_worse(&row.cash, &after.cash) else {
+        let false = self.is_worse(&before, &after) else {
             return Err(RegisterCause::WorstCase.into());
         };
-        self.post(after);
-        Ok(())
+        Ok(after)
     }
 
-    // The six figures of a portfolio.
-    pub(crate) fn telling(&self, portfolio: u16) -> Result<Figures, RegisterFault>
-        ensures answer { result ≡ tells self.now portfolio }
+    // An open portfolio.
+    pub(crate) fn opened(&self, number: u16) -> Result<Portfolio, RegisterFault>
+        ensures { MatchResult result (λ x. (portfolio self.now number ≡ Some x) × (tells self.now number ≡ Ok (figures_of (in_force self.now) (holding self.now number)))) (λ f. tells self.now number ≡ Err f) }
     {
-        check_portfolio(portfolio, 0)?;
-        let Some(row) = self.portfolios.get(portfolio) else {
+        check_portfolio(number, 0)?;
+        let Some(portfolio) = self.portfolios.get(number) else {
             return Err(RegisterCause::NoPortfolio.into());
         };
-        Ok(self.figures_of(&row.cash))
+        Ok(portfolio)
     }
 }

@@ -1,17 +1,17 @@
 // How the register is read and written, and how cash is judged.
-ghost use Rattle.std.specs.Prelude.{◌≡◌, true, MatchOption};
+ghost use Rattle.std.specs.Prelude.{◌≡◌, true, Ok, MatchOption};
 ghost use Rattle.keyed.specs.Rows.{Stands};
 ghost use Rattle.margin.specs.Keys.{currency_code};
 ghost use Rattle.margin.specs.Cash.{cash_by, cash_holding};
 ghost use Rattle.margin.specs.Figures.{figures_of};
 ghost use Rattle.margin.specs.Limits.{worsens};
-ghost use Rattle.register.specs.State.{currencies, in_force, is_open};
-ghost use Rattle.register.specs.Answers.{missing};
-ghost use Rattle.register.specs.Writes.{Adds, Writes};
+ghost use Rattle.register.specs.State.{currencies, in_force, is_open, Opens};
+ghost use Rattle.register.specs.Answers.{missing, opens};
+ghost use Rattle.register.specs.Writes.{Writes};
 
 use super::Register;
 use crate::records::Portfolio;
-use keyed::{Refusal, find};
+use keyed::find;
 use margin::{Figures, cash_figures};
 
 impl Register {
@@ -22,29 +22,28 @@ impl Register {
         find(&self.currencies, self.currencies.len(), code).ok()
     }
 
-    // The figures of a portfolio with this cash.
-    pub(crate) fn figures_of(&self, cash: &[i64; 8]) -> Figures
-        ensures { result ≡ figures_of (in_force self.now) (cash_holding (cash_by (currencies self.now) cash.now)) }
+    // The figures of a portfolio.
+    pub(crate) fn figures_of(&self, portfolio: &Portfolio) -> Figures
+        ensures { result ≡ figures_of (in_force self.now) (cash_holding (cash_by (currencies self.now) portfolio.now.cash)) }
     {
-        cash_figures(&self.currencies, cash)
+        cash_figures(&self.currencies, &portfolio.cash)
     }
 
     // Whether the worst case would be below nought, and below what it is.
-    pub(crate) fn is_worse(&self, before: &[i64; 8], after: &[i64; 8]) -> bool
-        ensures { result ≡ worsens (in_force self.now) (cash_holding (cash_by (currencies self.now) before.now)) (cash_holding (cash_by (currencies self.now) after.now)) }
+    pub(crate) fn is_worse(&self, before: &Portfolio, after: &Portfolio) -> bool
+        ensures { result ≡ worsens (in_force self.now) (cash_holding (cash_by (currencies self.now) before.now.cash)) (cash_holding (cash_by (currencies self.now) after.now.cash)) }
     {
         let worst = self.figures_of(after).worst;
         worst < 0 && worst < self.figures_of(before).worst
     }
 
-    // Puts a portfolio with no cash in, unless there is one with its number, or no place is free.
-    pub(crate) fn add(&mut self, number: u16) -> Result<(), Refusal>
-        ensures { Adds self.old number result self.new }
+    // Puts a portfolio that may be opened in, with no cash.
+    pub(crate) fn add(&mut self, number: u16)
+        requires { opens self.old number ≡ Ok tt }
+        ensures { Opens self.old number self.new }
     {
-        self.portfolios.insert(Portfolio {
-            number,
-            cash: [0; 8],
-        })
+        let cash = [0; 8];
+        let _ = self.portfolios.insert(Portfolio { number, cash });
     }
 
     // Puts an open portfolio in the place of what it was.

@@ -71,14 +71,17 @@ fn overwrite(currencies: &mut Vec<Currency>, entries: &[Currency])
 }
 
 impl Register {
-    fn beginning(
+    // The register that a first closed sheet opens, with so many places for portfolios, of which at most 1,024 serve.
+    // Without the memory for it the sheet comes back.
+    pub fn begin(
         heap: Global,
         closed: ClosedSheet,
         table: &[Currency],
         places: usize,
     ) -> Result<Register, (AllocError, ClosedSheet)>
-        requires { AsClosed closed table.now }
+        requires as_closed { AsClosed closed table.now }
         ensures tables { MatchResult result (λ t. Begins (cash_sheet (closed_entries closed table.now)) (min places 1024) t) (λ x. x.1 ≡ closed) }
+        ensures run { IfOk result (λ t. (room : Places) → room.portfolios ≡ min places 1024 → Run (opened_with (cash_sheet (closed_entries closed table.now)) room) t) }
     {
         let entries = &table[0..closed.currencies()];
         match begun(heap, entries, places) {
@@ -93,39 +96,6 @@ impl Register {
         }
     }
 
-    fn putting(
-        &mut self,
-        closed: ClosedSheet,
-        table: &[Currency],
-    ) -> Result<(), (RegisterFault, ClosedSheet)>
-        requires { AsClosed closed table.now }
-        ensures answer { result ≡ puts self.old closed table.now }
-        ensures tables { MatchResult result (λ _. Puts self.old (cash_sheet (closed_entries closed table.now)) self.new) (λ _. Unchanged self.old self.new) }
-    {
-        let entries = &table[0..closed.currencies()];
-        if let Err(fault) = fit(self.currencies.as_slice(), entries) {
-            return Err((fault.into(), closed));
-        }
-        overwrite(&mut self.currencies, entries);
-        closed.discard();
-        Ok(())
-    }
-
-    // The register that a first closed sheet opens, with so many places for portfolios, of which at most 1,024 serve.
-    // Without the memory for it the sheet comes back.
-    pub fn begin(
-        heap: Global,
-        closed: ClosedSheet,
-        table: &[Currency],
-        places: usize,
-    ) -> Result<Register, (AllocError, ClosedSheet)>
-        requires as_closed { AsClosed closed table.now }
-        ensures tables { MatchResult result (λ t. Begins (cash_sheet (closed_entries closed table.now)) (min places 1024) t) (λ x. x.1 ≡ closed) }
-        ensures run { IfOk result (λ t. (room : Places) → room.portfolios ≡ min places 1024 → Run (opened_with (cash_sheet (closed_entries closed table.now)) room) t) }
-    {
-        Register::beginning(heap, closed, table, places)
-    }
-
     // Puts a later closed sheet in force. One that is refused comes back.
     pub fn put_in_force(
         &mut self,
@@ -137,6 +107,12 @@ impl Register {
         ensures tables { MatchResult result (λ _. Puts self.old (cash_sheet (closed_entries closed table.now)) self.new) (λ _. Unchanged self.old self.new) }
         ensures run { (h : History) → Reached h self.old → Run (asked h (put_in_force (cash_sheet (closed_entries closed table.now))) (said_put result)) self.new }
     {
-        self.putting(closed, table)
+        let entries = &table[0..closed.currencies()];
+        if let Err(fault) = fit(self.currencies.as_slice(), entries) {
+            return Err((fault.into(), closed));
+        }
+        overwrite(&mut self.currencies, entries);
+        closed.discard();
+        Ok(())
     }
 }

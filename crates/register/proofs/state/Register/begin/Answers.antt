@@ -1,5 +1,10 @@
-use Rattle.register.proofs.NewSheets.{begun_run}
+use Rattle.std.proofs.Common.{◌≡◌, ℕ, ◌-◌, take, ap, ◌∙◌, arith}
+use Rattle.register.proofs.Sheets.{begins}
+use Rattle.register.proofs.NewSheets.{begins_run}
 use Rattle.register.proofs.state.Register.begin.Goals as goal
 
-pub returns : goal.returns
-returns c = record { tables = c.beginning.ensures.tables; run = begun_run c.args.closed c.args.table.now _ c.beginning.result c.requires.as_closed c.beginning.ensures.tables }
+pub returns-in-Ok-clause-run : goal.returns-in-Ok-clause-run
+returns-in-Ok-clause-run c =
+    let m = c.in-Ok.ensures in
+    let n : c.currencies.result - 0 ≡ c.args.closed.currencies = omega arith in
+    λ room e. begins_run c.args.closed c.args.table.now _ _ room c.requires.as_closed (begins _ _ _ (m.0 ∙ ap (λ (k : ℕ). take k c.args.table.now) n) m.1) e

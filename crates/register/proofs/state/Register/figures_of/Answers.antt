@@ -11,4 +11,4 @@ returns c =
     let e = c.deref.ensures.value in
     let up = rising_apart _ c.args.self.now.currencies_rise in
     c.cash_figures.ensures (omega (arith, c.deref.ensures.len, c.args.self.now.few)) (subst (λ (cs : List Currency). Apart (λ x. x.code) cs) (sym e) up)
-    ∙ ap (λ (cs : List Currency). figures_of (cash_sheet cs) (cash_holding (cash_by cs c.args.cash.now))) e
+    ∙ ap (λ (cs : List Currency). figures_of (cash_sheet cs) (cash_holding (cash_by cs c.args.portfolio.now.cash))) e
