@@ -5,5 +5,5 @@ mod drafting;
 mod replies;
 mod service;
 
-pub use replies::Outcome;
+pub use replies::{Answer, Outcome};
 pub use service::runs::run;

@@ -6,11 +6,14 @@ use margin::Figures;
 use register::RegisterFault;
 use std::fmt;
 
-// The tag of a field, and its answer: of one that is accepted, the figures where it asked for them.
+// Of a field that is accepted, the figures where it asked for them.
+pub type Answer = Result<Option<Figures>, RegisterFault>;
+
+// The tag of a field, and its answer.
 #[derive(Clone, Copy, Debug, PartialEq, Eq)]
 pub struct Outcome {
     pub tag: u8,
-    pub answer: Result<Option<Figures>, RegisterFault>,
+    pub answer: Answer,
 }
 
 impl Outcome {

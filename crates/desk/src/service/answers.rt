@@ -1,5 +1,4 @@
-// What the desk answers to each field. A call before a sheet is in force meets 27. Each call asks for the register itself: a
-// function that took the call as a closure would want that call's contract again at the closure.
+// What the desk answers to each field. A call before a sheet is in force meets 27.
 ghost use Rattle.std.specs.Prelude.{◌≡◌, IfOk, Some, None, Ok};
 ghost use Rattle.rules.specs.Histories.{opened_with};
 ghost use Rattle.book.specs.Requests.{enter_currency, put_in_force, open_portfolio, pay_in, pay_out, figures, asked};
@@ -9,9 +8,9 @@ ghost use Rattle.desk.specs.Service.{answer, Opened, Leaves, Carries, Lawful, ro
 
 use super::Desk;
 use crate::drafting::Drafting;
-use crate::replies::Outcome;
+use crate::replies::{Answer, Outcome};
 use book::{Item, Kind, Payment, number};
-use margin::{Currency, Figures};
+use margin::Currency;
 use register::{Register, RegisterFault};
 use sheet::{ClosedSheet, SheetCause, SheetFault};
 use std::alloc::{AllocError, Global};
@@ -43,59 +42,47 @@ impl Desk {
         drafting.discard();
     }
 
-    fn open_portfolio(&mut self, portfolio: u16) -> Result<Option<Figures>, RegisterFault>
+    fn open_portfolio(&mut self, portfolio: u16) -> Answer
         ensures is { result ≡ answer self.old (open_portfolio portfolio) }
         ensures leaves { Leaves self.old (open_portfolio portfolio) self.new }
         ensures carries { Carries self.old (open_portfolio portfolio) self.new }
     {
-        let Some(register) = &mut self.register else {
-            return Err(NOT_IN_FORCE);
-        };
+        let register = self.register.as_mut().ok_or(NOT_IN_FORCE)?;
         register.open_portfolio(portfolio)?;
         Ok(None)
     }
 
-    fn pay_in(&mut self, payment: Payment) -> Result<Option<Figures>, RegisterFault>
+    fn pay_in(&mut self, payment: Payment) -> Answer
         ensures is { result ≡ answer self.old (pay_in payment.portfolio payment.currency payment.amount) }
         ensures leaves { Leaves self.old (pay_in payment.portfolio payment.currency payment.amount) self.new }
         ensures carries { Carries self.old (pay_in payment.portfolio payment.currency payment.amount) self.new }
     {
-        let Some(register) = &mut self.register else {
-            return Err(NOT_IN_FORCE);
-        };
+        let register = self.register.as_mut().ok_or(NOT_IN_FORCE)?;
         register.pay_in(payment)?;
         Ok(None)
     }
 
-    fn pay_out(&mut self, payment: Payment) -> Result<Option<Figures>, RegisterFault>
+    fn pay_out(&mut self, payment: Payment) -> Answer
         ensures is { result ≡ answer self.old (pay_out payment.portfolio payment.currency payment.amount) }
         ensures leaves { Leaves self.old (pay_out payment.portfolio payment.currency payment.amount) self.new }
         ensures carries { Carries self.old (pay_out payment.portfolio payment.currency payment.amount) self.new }
     {
-        let Some(register) = &mut self.register else {
-            return Err(NOT_IN_FORCE);
-        };
+        let register = self.register.as_mut().ok_or(NOT_IN_FORCE)?;
         register.pay_out(payment)?;
         Ok(None)
     }
 
-    fn figures(&self, portfolio: u16) -> Result<Option<Figures>, RegisterFault>
+    fn figures(&self, portfolio: u16) -> Answer
         ensures is { result ≡ answer self.now (figures portfolio) }
         ensures carries { Carries self.now (figures portfolio) self.now }
     {
-        let Some(register) = &self.register else {
-            return Err(NOT_IN_FORCE);
-        };
+        let register = self.register.as_ref().ok_or(NOT_IN_FORCE)?;
         let figures = register.figures(portfolio)?;
         Ok(Some(figures))
     }
 
     // Opens the register by a closed sheet.
-    fn open_register(
-        &mut self,
-        heap: Global,
-        closed: ClosedSheet,
-    ) -> Result<Result<Option<Figures>, RegisterFault>, AllocError>
+    fn open_register(&mut self, heap: Global, closed: ClosedSheet) -> Result<Answer, AllocError>
         requires { AsClosed closed self.old.drafting.table }
         ensures { IfOk result (λ a. (a ≡ Ok None) × Opened self.old closed self.new × Lawful self.new.register (Some (opened_with (sheet_of closed self.old.drafting.table) room))) }
     {
@@ -113,10 +100,7 @@ impl Desk {
 
     // Closes the draft, and opens the register by the closed sheet or puts it in force. What is refused is discarded, and an
     // empty draft begins.
-    fn put_in_force(
-        &mut self,
-        heap: Global,
-    ) -> Result<Result<Option<Figures>, RegisterFault>, AllocError>
+    fn put_in_force(&mut self, heap: Global) -> Result<Answer, AllocError>
         ensures { IfOk result (λ a. (a ≡ answer self.old put_in_force) × Leaves self.old put_in_force self.new × Carries self.old put_in_force self.new) }
     {
         let draft = self.drafting.take();
@@ -139,7 +123,7 @@ impl Desk {
         }
     }
 
-    fn enter_currency(&mut self, currency: Currency) -> Result<Option<Figures>, RegisterFault>
+    fn enter_currency(&mut self, currency: Currency) -> Answer
         ensures is { result ≡ answer self.old (enter_currency currency.code currency.fx) }
         ensures leaves { Leaves self.old (enter_currency currency.code currency.fx) self.new }
         ensures carries { Carries self.old (enter_currency currency.code currency.fx) self.new }
@@ -149,11 +133,7 @@ impl Desk {
     }
 
     // What a field of its kind asks, asked.
-    fn ask(
-        &mut self,
-        heap: Global,
-        kind: &Kind,
-    ) -> Result<Result<Option<Figures>, RegisterFault>, AllocError>
+    fn ask(&mut self, heap: Global, kind: &Kind) -> Result<Answer, AllocError>
         ensures { IfOk result (λ a. (a ≡ answer self.old (asked kind.now)) × Leaves self.old (asked kind.now) self.new × Carries self.old (asked kind.now) self.new) }
     {
         match *kind {
