@@ -19,7 +19,7 @@ impl Register {
     pub(crate) fn place_of(&self, code: u16) -> Option<usize>
         ensures { MatchOption result (missing self.now code ≡ true) (λ i. Stands currency_code (currencies self.now) code i) }
     {
-        find(&self.currencies, self.currencies.len(), code).ok()
+        find(&self.currencies, code).ok()
     }
 
     // The figures of a portfolio.

@@ -1,6 +1,5 @@
-use Rattle.std.proofs.Common.{◌≡◌, ℕ, true, not, eqb, List, take, Ok, Err, is_some, Option, Result, MatchOption, sym, ap, ◌∙◌, subst, arith}
+use Rattle.std.proofs.Common.{◌≡◌, ℕ, true, not, eqb, List, Ok, Err, is_some, Option, Result, MatchOption, sym, ap, subst}
 use Rattle.std.specs.Result.{result_ok}
-use Rattle.std.proofs.lemmas.List.{take_all}
 use Rattle.keyed.specs.Rows.{Rising, Stands, Sought}
 use Rattle.margin.specs.declared.Currency.{Currency}
 use Rattle.margin.specs.Keys.{currency_code}
@@ -18,7 +17,6 @@ pub returns : goal.returns
 returns c =
     let r = c.args.self.now in
     let k = c.args.code in
-    let e : take c.len.result c.deref.result.now ≡ currencies r = take_all _ _ (omega arith) ∙ c.deref.ensures.value in
-    let up = subst (λ (cs : List Currency). Rising currency_code cs) (sym e) r.currencies_rise in
-    let sought = subst (λ (cs : List Currency). Sought currency_code cs k c.find.result) e (c.find.ensures.sought up) in
-    subst (λ (o : Option ℕ). MatchOption o (missing r k ≡ true) (λ i. Stands currency_code (currencies r) k i)) (sym c.ok.ensures.value) (placed (currencies r) k c.find.result sought)
+    let e = c.deref.ensures.value in
+    let sought = subst (λ (cs : List Currency). Rising currency_code cs → Sought currency_code cs k c.find.result) e c.find.ensures.sought in
+    subst (λ (o : Option ℕ). MatchOption o (missing r k ≡ true) (λ i. Stands currency_code (currencies r) k i)) (sym c.ok.ensures.value) (placed (currencies r) k c.find.result (sought r.currencies_rise))
