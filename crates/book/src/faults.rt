@@ -1,12 +1,17 @@
-// What is wrong with a field, and its place: its first byte in the book, from 1, or 0 without a book.
+// What is wrong with a field, and its place: its first byte in the book, from 1, or 0 without a book. The rules of a book give
+// each refusal a place as they give it a number, so 0 is one of them and no Option.
 ghost use Rattle.std.specs.Prelude.{◌≡◌};
 ghost use Rattle.book.specs.Faults.{field_number, fault};
 
 #[derive(Clone, Copy, Debug, PartialEq, Eq)]
 pub enum FieldCause {
+    // the book ends inside the field
     Ends = 1,
+    // no field has the tag
     UnknownTag = 2,
+    // the payload's length is not the tag's
     Length = 3,
+    // a number is outside its range
     Range = 4,
 }
 

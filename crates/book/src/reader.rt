@@ -59,7 +59,8 @@ pub fn next_item(rest: &[u8], place: usize) -> Option<(Item<'_>, &[u8])>
     Some((Item { tag, field }, after))
 }
 
-// The fields of a book in their order. Bytes past the first 65,536 are not read.
+// The fields of a book in their order. Bytes past the first 65,536 are not read. A loop over what is left and its place: an
+// iterator would be these two as a struct, and `next_item` is there for who reads one field alone.
 #[tactic(auto, using(crate::proofs::Books::told))]
 pub fn read_book(heap: Global, book: &[u8]) -> Result<Vec<Item<'_>>, AllocError>
     ensures { IfOk result (λ v. map seen v.items ≡ fields book.now) }

@@ -32,7 +32,7 @@ pub trait RateRow: Keyed<Key = u16> + Copy {
     fn checked(rate: Self::Rate) -> Result<Self, FieldFault>
         ensures { Checked Self.Keyed.key pieces (says rate) result };
 
-    // The piece at a place from 1, where there is one.
+    // The piece at a place from 1, where there is one, as a source answers it.
     fn piece(&self, k: usize) -> Option<Piece>
         ensures { result ≡ from_one (pieces self.now) k };
 
