@@ -1,5 +1,5 @@
-// Records on slices, with rising keys. `add` and `remove` are told how many places are used, since a free place stands behind
-// the records.
+// Records on slices: found by rising keys, put in and taken out. `add` and `remove` are told how many places are used: before
+// the one and after the other a free place stands behind the records.
 ghost use Rattle.std.specs.Prelude.{◌≡◌, ◌+◌, ◌-◌, ◌<◌, ◌≤◌, length, take, drop};
 ghost use Rattle.std.specs.List.{insert, remove};
 ghost use Rattle.std.specs.List.Sorted.{IsSearchInRange};
