@@ -10,6 +10,7 @@ mod measure;
 mod orders;
 mod pieces;
 mod portfolio;
+mod position;
 mod risk;
 mod stake;
 mod totals;

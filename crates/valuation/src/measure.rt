@@ -1,15 +1,13 @@
-// What lines and currencies count for: at the sheet's price, or at the least that they can come to. An
-// instrument and a line meet only where a code is looked up, so no type holds the two.
+// What lines and currencies count for: at the sheet's price, or at the least that they can come to.
 ghost use Rattle.std.specs.Prelude.{◌≡◌, ℕ, ◌*◌, ◌^◌, ◌≤◌, List, ℤ, unsigned_abs};
 ghost use Rattle.margin.specs.declared.Instrument as instruments;
 ghost use Rattle.margin.specs.declared.Order as orders;
 ghost use Rattle.margin.specs.declared.Piece as pieces;
 ghost use Rattle.valuation.specs.Values.{net_value, low_value, unshocked, shocked_value};
 
-use crate::line::Line;
 use crate::orders::Orders;
-use crate::risk::{low, net, shocked};
-use margin::Instrument;
+use crate::position::Position;
+use crate::risk::shocked;
 use rates::RateSource;
 
 pub(crate) trait Measure {
@@ -19,13 +17,8 @@ pub(crate) trait Measure {
     // Of an amount of a currency.
     ghost shock: { (ℕ → List pieces.Piece) → ℕ → ℤ → ℤ };
 
-    fn line_value<S: RateSource>(
-        source: &S,
-        instrument: Instrument,
-        line: Line,
-        orders: &Orders,
-    ) -> i128
-        ensures is { result ≡ line_value (S.RateSource.pieces source.now) orders.now.orders.now instrument line.planned }
+    fn line_value<S: RateSource>(source: &S, position: Position, orders: &Orders) -> i128
+        ensures is { result ≡ line_value (S.RateSource.pieces source.now) orders.now.orders.now position.instrument position.line.planned }
         ensures small { unsigned_abs result ≤ 10 ^ 24 };
 
     fn shock<S: RateSource>(source: &S, currency: u16, amount: i128) -> i128
@@ -41,13 +34,8 @@ impl Measure for Net {
 
     ghost shock = { unshocked };
 
-    fn line_value<S: RateSource>(
-        _source: &S,
-        instrument: Instrument,
-        line: Line,
-        _orders: &Orders,
-    ) -> i128 {
-        net(instrument, line)
+    fn line_value<S: RateSource>(_source: &S, position: Position, _orders: &Orders) -> i128 {
+        position.net()
     }
 
     fn shock<S: RateSource>(_source: &S, _currency: u16, amount: i128) -> i128 {
@@ -62,13 +50,8 @@ impl Measure for Low {
 
     ghost shock = { shocked_value };
 
-    fn line_value<S: RateSource>(
-        source: &S,
-        instrument: Instrument,
-        line: Line,
-        orders: &Orders,
-    ) -> i128 {
-        low(source, instrument, line, orders)
+    fn line_value<S: RateSource>(source: &S, position: Position, orders: &Orders) -> i128 {
+        position.low(source, orders)
     }
 
     fn shock<S: RateSource>(source: &S, currency: u16, amount: i128) -> i128 {

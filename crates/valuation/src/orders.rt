@@ -31,7 +31,8 @@ impl<'a> Orders<'a> {
         }
     }
 
-    // The open quantities of the orders in the code. A loop, since of a sum by an iterator no bound is proved.
+    // The open quantities of the orders in the code. A loop: of an iterator's sum the value is proved, and the bound is not,
+    // since the range of each order's field is not known there.
     pub(crate) fn open_units(&self, code: u16) -> u128
         ensures is { result ≡ count (λ o. (if on code o then o.left else 0)) self.now.orders.now }
         ensures small { result ≤ 2 ^ 45 }

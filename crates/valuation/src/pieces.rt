@@ -19,7 +19,7 @@ fn value_at<S: RateSource>(source: &S, stake: Stake, k: usize, orders: &Orders) 
     Some(Weighed { stake, piece }.value(orders))
 }
 
-// The lower of two, where there are two.
+// The lower of two, where there are two. A `match`: of the least of a chain of the two no proof was found.
 pub(crate) fn lower_of(a: Option<i128>, b: Option<i128>) -> Option<i128>
     ensures { result ≡ lower a b }
 {
@@ -29,7 +29,7 @@ pub(crate) fn lower_of(a: Option<i128>, b: Option<i128>) -> Option<i128>
     }
 }
 
-// The least over the pieces. The source says beforehand how many there may be.
+// The least over the pieces. A source says beforehand how many there may be, and gives one at a time.
 pub(crate) fn least<S: RateSource>(source: &S, stake: Stake, orders: &Orders) -> Option<i128>
     ensures is { result ≡ lowest (raw_of orders.now.orders.now stake) (S.RateSource.pieces source.now stake.code) }
     ensures small { Small (reach stake.amount) result }

@@ -12,6 +12,7 @@ use crate::market::Market;
 use crate::measure::{Low, Measure, Net};
 use crate::orders::Orders;
 use crate::portfolio::Portfolio;
+use crate::position::Position;
 use margin::{Currency, Figures, figures_from, wide_in_roubles};
 use rates::RateSource;
 
@@ -23,11 +24,11 @@ impl<'a, S: RateSource> Market<'a, S> {
     {
         self.listing.priced_in(line.code, currency).map_or(
             0,
-            |instrument| M::line_value(self.source, instrument, line, orders),
+            |instrument| M::line_value(self.source, Position { instrument, line }, orders),
         )
     }
 
-    // Cash and the values of a currency's lines.
+    // Cash and the values of a currency's lines. A loop, since of a signed sum by an iterator no bound is proved.
     fn equity<M: Measure>(&self, portfolio: &Portfolio, currency: u16, cash: i64) -> i128
         ensures is { let pieces = S.RateSource.pieces self.now.source.now in result ≡ equity_in (M.Measure.line_value pieces portfolio.now.orders.orders.now) self.now.listing.instruments.now portfolio.now.lines.lines.now currency cash }
         ensures small { unsigned_abs result ≤ 10 ^ 28 }

@@ -47,7 +47,7 @@ impl Weighed {
         u128::from(order.left) * u128::from(unit_loss(order.side, worth, money))
     }
 
-    // What the orders in the code lose together. A loop, since of a sum by an iterator no bound is proved.
+    // What the orders in the code lose together. A loop, as the sum of the open quantities is.
     fn losses(self, orders: &Orders) -> u128
         ensures is { result ≡ lost orders.now.orders.now self.stake.code self.stake.price self.piece.weight }
         ensures small { result ≤ 2 ^ 92 }
