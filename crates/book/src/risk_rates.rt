@@ -6,7 +6,7 @@ use crate::faults::FieldFault;
 use crate::ranges::{not_a_rated_code, not_a_risk_rate, ranged};
 
 // The weights lie `plus` below and `minus` above 10,000.
-#[derive(Clone, Copy, Debug, PartialEq, Eq)]
+#[derive(Clone, Copy, Debug, Default, PartialEq, Eq)]
 pub struct PostedRate {
     pub code: u16,
     pub plus: u16,
@@ -27,7 +27,7 @@ impl PostedRate {
 }
 
 // Three steps, and the limits between them.
-#[derive(Clone, Copy, Debug, PartialEq, Eq)]
+#[derive(Clone, Copy, Debug, Default, PartialEq, Eq)]
 pub struct SteppedRate {
     pub code: u16,
     pub s1: u16,

@@ -9,7 +9,7 @@ pub struct Piece {
 }
 
 // A currency, with its exchange rate in ten-thousandths of a rouble a unit.
-#[derive(Clone, Copy, Debug, PartialEq, Eq)]
+#[derive(Clone, Copy, Debug, Default, PartialEq, Eq)]
 pub struct Currency {
     pub code: u16,
     pub fx: u32,

@@ -88,3 +88,7 @@ module _ (s t : Register) (x : Portfolio) (same : t.currencies ≡ s.currencies)
       }
   added (Err Taken) h = absurd (both_ways (is_open s x.number) passed.0 h.0)
   added (Err Full) h = absurd (omega (arith, leb-false _ _ passed.1, h.1))
+
+-- the same, by the number that the record is known to have
+pub added_as : (s t : Register) (x : Portfolio) (p : ℕ) → x.number ≡ p → t.currencies ≡ s.currencies → x.cash ≡ replicate 8 (pos 0) → opens s p ≡ Ok tt → (a : Result (Unit {0}) Refusal) → Inserts portfolio_number s.portfolios t.portfolios x a → Opens s p t
+added_as s t x p n same none may a h = subst (λ (q : ℕ). Opens s q t) n (added s t x same none (subst (λ (q : ℕ). opens s q ≡ Ok tt) (sym n) may) a h)

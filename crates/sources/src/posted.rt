@@ -49,11 +49,7 @@ impl RateRow for PostedRow {
     ghost lawful = { posted_row_lawful };
 
     fn blank() -> PostedRow {
-        let rate = PostedRate {
-            code: 0,
-            plus: 0,
-            minus: 0,
-        };
+        let rate = PostedRate::default();
         PostedRow { rate }
     }
 

@@ -71,14 +71,7 @@ impl RateRow for SteppedRow {
     ghost lawful = { stepped_row_lawful };
 
     fn blank() -> SteppedRow {
-        let rate = SteppedRate {
-            code: 0,
-            s1: 0,
-            s2: 0,
-            s3: 0,
-            k1: 0,
-            k2: 0,
-        };
+        let rate = SteppedRate::default();
         SteppedRow { rate }
     }
 

@@ -10,10 +10,9 @@ impl Drafting {
     pub(crate) fn begin() -> Drafting
         ensures { result.draft.currencies ≡ 0 }
     {
-        let blank = Currency { code: 0, fx: 0 };
         Drafting {
             draft: Draft::begin(),
-            table: [blank; 8],
+            table: [Currency::default(); 8],
         }
     }
 

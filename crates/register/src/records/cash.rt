@@ -1,5 +1,5 @@
 // How the cash of a portfolio moves.
-ghost use Rattle.std.specs.Prelude.{◌≡◌, ◌<◌, ◌≤◌, pos, ◌+ℤ◌, IfSome, slice_index_or, unsigned_abs};
+ghost use Rattle.std.specs.Prelude.{◌≡◌, ◌<◌, ◌≤◌, pos, ◌+ℤ◌, replicate, IfSome, slice_index_or, unsigned_abs};
 ghost use Rattle.std.specs.Option.{option_map};
 ghost use Rattle.register.specs.Writes.{cash_of, moved_to};
 
@@ -8,6 +8,15 @@ use super::Portfolio;
 const GROSS_LIMIT: u64 = 200_000_000_000;
 
 impl Portfolio {
+    // A portfolio with no cash.
+    pub(crate) fn empty(number: u16) -> Portfolio
+        ensures number { result.number ≡ number }
+        ensures cash { result.cash ≡ replicate 8 (pos 0) }
+    {
+        let cash = [0; 8];
+        Portfolio { number, cash }
+    }
+
     // The portfolio with so much more at a place, unless it is over the limit there.
     pub(crate) fn moved(self, place: usize, by: i64) -> Option<Portfolio>
         requires place { place < 8 }

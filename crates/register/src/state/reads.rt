@@ -42,8 +42,7 @@ impl Register {
         requires { opens self.old number ≡ Ok tt }
         ensures { Opens self.old number self.new }
     {
-        let cash = [0; 8];
-        let _ = self.portfolios.insert(Portfolio { number, cash });
+        let _ = self.portfolios.insert(Portfolio::empty(number));
     }
 
     // Puts an open portfolio in the place of what it was.

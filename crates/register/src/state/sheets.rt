@@ -33,11 +33,7 @@ fn begun(
     ensures { IfOk result (λ m. (m.0.items ≡ entries.now) × Fresh portfolio_number m.1 (min places 1024)) }
 {
     let currencies = Vec::from_slice(heap, entries)?;
-    let blank = Portfolio {
-        number: 0,
-        cash: [0; 8],
-    };
-    let rows = vec![in heap; blank; places.min(MOST_PORTFOLIOS)]?;
+    let rows = vec![in heap; Portfolio::empty(0); places.min(MOST_PORTFOLIOS)]?;
     Ok((currencies, Table::new(rows, MOST_PORTFOLIOS)))
 }
 
