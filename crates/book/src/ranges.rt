@@ -12,6 +12,7 @@ const MOST_FX: u32 = 10_000_000;
 // In hundredths.
 pub(crate) const MOST_AMOUNT: u64 = 200_000_000_000;
 
+// As margin has it; neither crate stands on the other.
 const ROUBLE: u16 = 643;
 
 const MOST_RISK: u16 = 10_000;

@@ -50,7 +50,8 @@ impl<R: Copy> Places<R> {
         self.rows()[at]
     }
 
-    // Puts a record after all others, whatever its key, where there is a free place.
+    // Puts a record after all others, whatever its key, where there is a free place. Of the refusals only `Full` comes: a type
+    // for it alone would be one more name for callers.
     pub fn append(&mut self, row: R) -> Result<(), Refusal>
         ensures { Appends self.old self.new row result }
     {

@@ -5,6 +5,7 @@ ghost use Rattle.register.specs.Writes.{cash_of, moved_to};
 
 use super::Portfolio;
 
+// The limit of gross, which of cash alone is the cash.
 const GROSS_LIMIT: u64 = 200_000_000_000;
 
 impl Portfolio {
