@@ -130,10 +130,10 @@ mod tests {
 
     // Records whose keys rise come in the place of all, and are found.
     #[test]
-    fn loads(rt: HostRuntime) -> Result<(), Fail> {
+    fn fills(rt: HostRuntime) -> Result<(), Fail> {
         let mut table = Table::new(vec![in rt.alloc(); account(0, 0); 3]?, 3);
         assert_eq!(rt; table.insert(account(8, 80)), Ok(()));
-        table.load(&[account(4, 40), account(9, 90)]);
+        table.fill(&[account(4, 40), account(9, 90)]);
         assert_eq!(rt; table.get(9), Some(account(9, 90)));
         assert_eq!(rt; table.get(8), None);
         assert_eq!(rt; table.insert(account(5, 50)), Ok(()));

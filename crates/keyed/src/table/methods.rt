@@ -124,7 +124,7 @@ impl<R: Keyed + Copy> Table<R> {
     }
 
     // Puts records whose keys rise in the place of all that there are.
-    pub fn load(&mut self, rows: &[R])
+    pub fn fill(&mut self, rows: &[R])
         requires fits { length rows.now ≤ room self.old }
         requires rise { Rising R.Keyed.key rows.now }
         ensures records { entries self.new ≡ rows.now }
