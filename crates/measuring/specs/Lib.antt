@@ -1,0 +1,5 @@
+pub mod Numbers
+pub mod SameRate
+pub mod Requests
+pub mod Units
+pub mod Lines
