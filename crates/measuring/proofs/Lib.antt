@@ -1,0 +1,2 @@
+mod Eights
+mod Portfolios

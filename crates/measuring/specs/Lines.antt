@@ -18,9 +18,9 @@ posted_rate code plus minus = record { code = code; plus = plus; minus = minus }
 abbrev pub stepped_rate : ℕ → ℕ → ℕ → ℕ → ℕ → ℕ → SteppedRate
 stepped_rate code s1 s2 s3 k1 k2 = record { code = code; s1 = s1; s2 = s2; s3 = s3; k1 = k1; k2 = k2 }
 
-abbrev pub worth_under : Said → Units → Option ℤ
-worth_under r u = cond (not r.outside && within u) (Some (worth (pieces_of (any_sheet (λ _. r.pieces)) (instrument_of u)) u.price u.planned)) None
+abbrev pub worth_under : Said → ℕ → Units → Option ℤ
+worth_under r code u = cond (not r.outside && within u) (Some (worth (pieces_of (any_sheet (λ _. r.pieces)) (instrument_of code u)) u.price u.planned)) None
 
 -- with four orders
-abbrev pub low_under : Said → Units → List Request → Option ℤ
-low_under r u rs = cond (not r.outside && within u) (option_map (λ os. low (any_sheet (λ _. r.pieces)) (one_line u.planned os) (instrument_of u)) (four_of rs)) None
+abbrev pub low_under : Said → ℕ → Units → List Request → Option ℤ
+low_under r code u rs = cond (not r.outside && within u) (option_map (λ os. low (any_sheet (λ _. r.pieces)) (one_line u.planned os) (instrument_of code u)) (four_of rs)) None

@@ -13,69 +13,76 @@ use book::{PostedRate, SteppedRate};
 use sources::{PostedRow, RateRow, SteppedRow};
 use valuation::{Orders, low, worth};
 
-fn worth_of<R: RateRow>(rate: R::Rate, units: Units) -> Option<i128>
-    ensures { result ≡ worth_under (R.says rate) units }
+fn worth_of<R: RateRow>(rate: R::Rate, code: u16, units: Units) -> Option<i128>
+    ensures { result ≡ worth_under (R.says rate) code units }
 {
     let row = R::checked(rate).ok()?;
-    let line = units.line()?;
-    Some(worth(&SameRate { row }, units.instrument(), line))
+    let line = units.line(code)?;
+    Some(worth(&SameRate { row }, units.instrument(code), line))
 }
 
-fn low_of<R: RateRow>(rate: R::Rate, units: Units, requests: &[Request]) -> Option<i128>
-    ensures { result ≡ low_under (R.says rate) units requests.now }
+fn low_of<R: RateRow>(rate: R::Rate, code: u16, units: Units, requests: &[Request]) -> Option<i128>
+    ensures { result ≡ low_under (R.says rate) code units requests.now }
 {
     let row = R::checked(rate).ok()?;
-    let line = units.line()?;
+    let line = units.line(code)?;
     let orders = four(requests)?;
-    Some(low(
-        &SameRate { row },
-        units.instrument(),
-        line,
-        &Orders { orders: &orders },
-    ))
+    let orders = Orders { orders: &orders };
+    Some(low(&SameRate { row }, units.instrument(code), line, &orders))
 }
 
 // The worth of a line whose code has a posted rate. It is not known where a number is out of its range.
 #[unsafe(no_mangle)]
-pub extern "C" fn worth_posted(plus: u16, minus: u16, units: Units) -> Answer
-    ensures { Answers (worth_under (posted_says (posted_rate units.code plus minus)) units) result }
+pub extern "C" fn worth_posted(code: u16, plus: u16, minus: u16, units: Units) -> Answer
+    ensures { Answers (worth_under (posted_says (posted_rate code plus minus)) code units) result }
 {
-    let code = units.code;
-    Answer::from(worth_of::<PostedRow>(PostedRate { code, plus, minus }, units))
+    Answer::from(worth_of::<PostedRow>(PostedRate { code, plus, minus }, code, units))
 }
 
 // The same at a stepped rate.
 #[unsafe(no_mangle)]
-pub extern "C" fn worth_stepped(s1: u16, s2: u16, s3: u16, k1: u32, k2: u32, units: Units) -> Answer
-    ensures { Answers (worth_under (stepped_says (stepped_rate units.code s1 s2 s3 k1 k2)) units) result }
+pub extern "C" fn worth_stepped(
+    code: u16,
+    s1: u16,
+    s2: u16,
+    s3: u16,
+    k1: u32,
+    k2: u32,
+    units: Units,
+) -> Answer
+    ensures { Answers (worth_under (stepped_says (stepped_rate code s1 s2 s3 k1 k2)) code units) result }
 {
-    let code = units.code;
-    Answer::from(worth_of::<SteppedRow>(
-        SteppedRate {
-            code,
-            s1,
-            s2,
-            s3,
-            k1,
-            k2,
-        },
-        units,
-    ))
+    let rate = SteppedRate {
+        code,
+        s1,
+        s2,
+        s3,
+        k1,
+        k2,
+    };
+    Answer::from(worth_of::<SteppedRow>(rate, code, units))
 }
 
 // The least that a line can come to, with the cash of its orders, whose code has a posted rate. It is not known where a
 // number is out of its range, or where the orders are not four.
 #[unsafe(no_mangle)]
-pub extern "C" fn low_posted(plus: u16, minus: u16, units: Units, requests: &[Request]) -> Answer
-    ensures { Answers (low_under (posted_says (posted_rate units.code plus minus)) units requests.now) result }
+pub extern "C" fn low_posted(
+    code: u16,
+    plus: u16,
+    minus: u16,
+    units: Units,
+    requests: &[Request],
+) -> Answer
+    ensures { Answers (low_under (posted_says (posted_rate code plus minus)) code units requests.now) result }
 {
-    let code = units.code;
-    Answer::from(low_of::<PostedRow>(PostedRate { code, plus, minus }, units, requests))
+    let rate = PostedRate { code, plus, minus };
+    Answer::from(low_of::<PostedRow>(rate, code, units, requests))
 }
 
 // The same at a stepped rate.
 #[unsafe(no_mangle)]
 pub extern "C" fn low_stepped(
+    code: u16,
     s1: u16,
     s2: u16,
     s3: u16,
@@ -84,19 +91,15 @@ pub extern "C" fn low_stepped(
     units: Units,
     requests: &[Request],
 ) -> Answer
-    ensures { Answers (low_under (stepped_says (stepped_rate units.code s1 s2 s3 k1 k2)) units requests.now) result }
+    ensures { Answers (low_under (stepped_says (stepped_rate code s1 s2 s3 k1 k2)) code units requests.now) result }
 {
-    let code = units.code;
-    Answer::from(low_of::<SteppedRow>(
-        SteppedRate {
-            code,
-            s1,
-            s2,
-            s3,
-            k1,
-            k2,
-        },
-        units,
-        requests,
-    ))
+    let rate = SteppedRate {
+        code,
+        s1,
+        s2,
+        s3,
+        k1,
+        k2,
+    };
+    Answer::from(low_of::<SteppedRow>(rate, code, units, requests))
 }

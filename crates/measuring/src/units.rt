@@ -2,7 +2,7 @@
 ghost use Rattle.std.specs.Prelude.{◌≡◌};
 ghost use Rattle.measuring.specs.Units.{instrument_of, IsLine};
 
-use margin::{Instrument, Kind, ROUBLE};
+use margin::{Instrument, Kind};
 use valuation::Line;
 
 const MOST_UNITS: u64 = 200_000_000_000;
@@ -12,18 +12,17 @@ const MOST_UNITS: u64 = 200_000_000_000;
 pub struct Units {
     pub planned: i64,
     pub price: u32,
-    pub code: u16,
+    pub currency: u16,
     pub off_list: bool,
 }
 
 impl Units {
-    // The instrument, in roubles.
-    pub(crate) fn instrument(self) -> Instrument
-        ensures { result ≡ instrument_of self }
+    pub(crate) fn instrument(self, code: u16) -> Instrument
+        ensures { result ≡ instrument_of code self }
     {
         Instrument {
-            code: self.code,
-            currency: ROUBLE,
+            code,
+            currency: self.currency,
             kind: if self.off_list {
                 Kind::OffList
             } else {
@@ -34,12 +33,12 @@ impl Units {
     }
 
     // The line, where there are not too many units.
-    pub(crate) fn line(self) -> Option<Line>
-        ensures { IsLine self result }
+    pub(crate) fn line(self, code: u16) -> Option<Line>
+        ensures { IsLine code self result }
     {
         if self.planned.unsigned_abs() <= MOST_UNITS {
             Some(Line {
-                code: self.code,
+                code,
                 planned: self.planned,
             })
         } else {
