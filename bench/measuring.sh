@@ -4,5 +4,5 @@
 set -eu
 (cd crates/measuring && rt lib)
 mkdir -p target
-rustc -O -o target/measuring bench/measuring/main.rs -L crates/measuring/out -l static=measuring
+rustc --edition 2024 -O -o target/measuring bench/measuring/main.rs -L crates/measuring/out -l static=measuring
 target/measuring

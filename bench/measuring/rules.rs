@@ -34,7 +34,7 @@ pub enum Rate {
 }
 
 // A weight and an allowance.
-pub type Piece = (i128, i128);
+type Piece = (i128, i128);
 
 pub const FIRST: u16 = 1_000;
 pub const DOLLAR: u16 = 840;
@@ -42,18 +42,18 @@ pub const ROUBLE: u16 = 643;
 pub const MOST_UNITS: i128 = 200_000_000_000;
 
 // z / n toward minus infinity.
-pub fn down(z: i128, n: i128) -> i128 {
+fn down(z: i128, n: i128) -> i128 {
     let cut = z / n;
-    if z % n < 0 { cut - 1 } else { cut }
+    if cut * n > z { cut - 1 } else { cut }
 }
 
-pub fn roubles(amount: i128, fx: u32) -> i128 {
+fn in_roubles(amount: i128, fx: u32) -> i128 {
     down(amount * i128::from(fx), 10_000)
 }
 
 impl Rate {
     // The pieces of a code, none where a number is out of its range.
-    pub fn pieces(&self, code: u16) -> Option<Vec<Piece>> {
+    fn pieces(&self, code: u16) -> Option<Vec<Piece>> {
         if code == 0 || code == ROUBLE {
             return None;
         }
@@ -78,25 +78,24 @@ impl Rate {
 }
 
 // Off the liquid list the piece that counts nothing joins.
-pub fn pieces_of(units: &Units, pieces: &[Piece]) -> Vec<Piece> {
-    let joined = units.off_list.then_some((0, 0));
-    joined.into_iter().chain(pieces.iter().copied()).collect()
+fn joined(off_list: bool, pieces: &[Piece]) -> impl Iterator<Item = Piece> {
+    off_list.then_some((0, 0)).into_iter().chain(pieces.iter().copied())
 }
 
 // The worth of q units: the least over the pieces, each rounded down.
-pub fn worth(pieces: &[Piece], price: i128, q: i128) -> i128 {
-    pieces.iter().map(|(weight, allowance)| down(price * (weight * q + allowance), 10_000)).min().unwrap()
+fn worth_on(pieces: &[Piece], off_list: bool, price: i128, q: i128) -> i128 {
+    joined(off_list, pieces).map(|(weight, allowance)| down(price * (weight * q + allowance), 10_000)).min().unwrap()
 }
 
 // A buy counts at the greater of its own price and the sheet's, a sell at the lesser.
-pub fn counted_price(price: u32, order: &Request) -> i128 {
+fn counted_price(price: u32, order: &Request) -> i128 {
     i128::from(if order.sells { order.price.min(price) } else { order.price.max(price) })
 }
 
 // The least that a line can come to, by the formula: on each piece every order that loses there is filled whole.
-pub fn low(pieces: &[Piece], code: u16, units: &Units, orders: &[Request]) -> i128 {
+fn low_on(pieces: &[Piece], code: u16, units: &Units, orders: &[Request]) -> i128 {
     let price = i128::from(units.price);
-    let on = |(weight, allowance): &Piece| {
+    let on = |(weight, allowance): Piece| {
         let line = price * (weight * i128::from(units.planned) + allowance);
         let drag = orders.iter().filter(|o| o.code == code).map(|o| {
             let gain = price * weight - 10_000 * counted_price(units.price, o);
@@ -104,14 +103,14 @@ pub fn low(pieces: &[Piece], code: u16, units: &Units, orders: &[Request]) -> i1
         });
         down(line + drag.sum::<i128>(), 10_000)
     };
-    pieces.iter().map(on).min().unwrap()
+    joined(units.off_list, pieces).map(on).min().unwrap()
 }
 
 // The same by every filling: the least of the worth of the filled line with the cash that the filling moved.
-pub fn low_by_fillings(pieces: &[Piece], code: u16, units: &Units, orders: &[Request]) -> i128 {
+fn low_by_fillings_on(pieces: &[Piece], code: u16, units: &Units, orders: &[Request]) -> i128 {
     fn fill(pieces: &[Piece], units: &Units, q: i128, cash: i128, orders: &[Request]) -> i128 {
         let Some((order, rest)) = orders.split_first() else {
-            return worth(pieces, i128::from(units.price), q) + cash;
+            return worth_on(pieces, units.off_list, i128::from(units.price), q) + cash;
         };
         let side = if order.sells { -1 } else { 1 };
         let price = counted_price(units.price, order);
@@ -126,23 +125,55 @@ pub fn low_by_fillings(pieces: &[Piece], code: u16, units: &Units, orders: &[Req
 pub type Figures = [i128; 6];
 
 // The six figures of lines in the codes from 1,000 on, all codes but the rouble at one rate.
-pub fn figures(pieces: &[Piece], cash: &Cash, lines: &[Units], orders: &[Request]) -> Figures {
-    let joined: Vec<Vec<Piece>> = lines.iter().map(|u| pieces_of(u, pieces)).collect();
+fn figures_on(pieces: &[Piece], cash: &Cash, lines: &[Units], orders: &[Request]) -> Figures {
     let (mut value, mut first, mut worst) = (0, 0, 0);
     for (currency, cash, fx) in [(ROUBLE, cash.roubles, 10_000), (DOLLAR, cash.dollars, cash.fx)] {
-        let shocked = |e: i128| if currency == ROUBLE { e } else { worth(pieces, 1, e) };
+        let shocked = |e: i128| if currency == ROUBLE { e } else { worth_on(pieces, false, 1, e) };
         let (mut net, mut equity, mut least) = (i128::from(cash), i128::from(cash), i128::from(cash));
         for (place, units) in lines.iter().enumerate().filter(|(_, u)| u.currency == currency) {
             let (price, q) = (i128::from(units.price), i128::from(units.planned));
             net += price * if units.off_list { q.min(0) } else { q };
-            equity += worth(&joined[place], price, q);
-            least += low(&joined[place], FIRST + place as u16, units, orders);
+            equity += worth_on(pieces, units.off_list, price, q);
+            least += low_on(pieces, FIRST + place as u16, units, orders);
         }
-        value += roubles(net, fx);
-        first += roubles(shocked(equity), fx);
-        worst += roubles(shocked(least), fx);
+        value += in_roubles(net, fx);
+        first += in_roubles(shocked(equity), fx);
+        worst += in_roubles(shocked(least), fx);
     }
     let initial = value - first;
     let minimum = -down(-initial, 2);
     [value, initial, minimum, first, value - minimum, worst]
+}
+
+// ---- where every number is in its range
+
+impl Units {
+    fn few(&self) -> bool {
+        i128::from(self.planned).abs() <= MOST_UNITS
+    }
+}
+
+pub fn roubles(amount: i64, fx: u32) -> i128 {
+    in_roubles(i128::from(amount), fx)
+}
+
+pub fn worth(rate: Rate, code: u16, units: Units) -> Option<i128> {
+    let pieces = rate.pieces(code).filter(|_| units.few())?;
+    Some(worth_on(&pieces, units.off_list, i128::from(units.price), i128::from(units.planned)))
+}
+
+pub fn low(rate: Rate, code: u16, units: Units, orders: &[Request]) -> Option<i128> {
+    let pieces = rate.pieces(code).filter(|_| units.few() && orders.len() == 4)?;
+    Some(low_on(&pieces, code, &units, orders))
+}
+
+pub fn low_by_fillings(rate: Rate, code: u16, units: Units, orders: &[Request]) -> Option<i128> {
+    let pieces = rate.pieces(code).filter(|_| units.few() && orders.len() == 4)?;
+    Some(low_by_fillings_on(&pieces, code, &units, orders))
+}
+
+pub fn figures(plus: u16, minus: u16, cash: Cash, lines: &[Units], orders: &[Request]) -> Option<Figures> {
+    let pieces = Rate::Posted { plus, minus }.pieces(DOLLAR)?;
+    let within = lines.iter().all(Units::few) && lines.len() == 8 && orders.len() == 4;
+    within.then(|| figures_on(&pieces, &cash, lines, orders))
 }
