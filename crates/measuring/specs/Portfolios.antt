@@ -1,5 +1,6 @@
 -- The figures of a portfolio that C's records say: none where a number is out of its range.
-use Rattle.std.specs.Prelude.{◌≡◌, ℕ, suc, Bool, cond, not, ◌&&◌, List, [], ◌∷◌, map, length, ℤ, pos, Some, None, Option, nat_eq}
+use Rattle.std.specs.Prelude.{◌≡◌, ℕ, suc, Bool, cond, not, ◌&&◌, List, [], ◌∷◌, map, length, is_some, ℤ, pos, Some, None, Option, nat_eq}
+use Rattle.std.specs.Option.{unwrap_or}
 use Rattle.margin.specs.declared.Currency.{Currency}
 use Rattle.margin.specs.declared.Figures.{Figures}
 use Rattle.margin.specs.Cash.{cash_by}
@@ -19,7 +20,7 @@ use Rattle.measuring.specs.Placed.{instruments_from, eight_within}
 abbrev pub currencies_of : Cash → List Currency
 currencies_of c = record { code = rouble; fx = 10000 } ∷ record { code = 840; fx = c.fx } ∷ []
 
--- every code but the rouble has the same pieces
+-- every code has the same pieces; the rouble's are never read
 abbrev pub sheet_of : Said → Cash → List Units → Sheet
 sheet_of r c us = record { currencies = currencies_of c; instruments = instruments_from 1000 us; pieces = λ _. r.pieces }
 
@@ -41,8 +42,8 @@ figures_under r c us rs = cond (not r.outside && eight_within us && nat_eq (leng
 abbrev pub noughts : Figures
 noughts = record { value = pos 0; initial = pos 0; minimum = pos 0; first = pos 0; second = pos 0; worst = pos 0 }
 
--- whether there are figures, and the figures, in halves
-pub record Tells (there : Bool) (f : Figures) (t : Told) : Type 0 where
+-- a flag and six figures, in halves
+pub record InHalves (there : Bool) (f : Figures) (t : Told) : Type 0 where
   pub known : t.known ≡ there
   pub value : number t.value ≡ f.value
   pub initial : number t.initial ≡ f.initial
@@ -50,3 +51,7 @@ pub record Tells (there : Bool) (f : Figures) (t : Told) : Type 0 where
   pub first : number t.first ≡ f.first
   pub second : number t.second ≡ f.second
   pub worst : number t.worst ≡ f.worst
+
+-- whether there are figures, and the figures, all 0 where there are none
+abbrev pub Tells : Option Figures → Told → Type 0
+Tells o t = InHalves (is_some o) (unwrap_or o noughts) t

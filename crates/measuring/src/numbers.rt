@@ -1,7 +1,7 @@
 // A number of 128 bits as C takes it, in two halves.
-ghost use Rattle.std.specs.Prelude.{◌≡◌, pos, ◌*ℤ◌, if◌then◌else◌, is_some};
+ghost use Rattle.std.specs.Prelude.{◌≡◌, pos, ◌*ℤ◌};
 ghost use Rattle.margin.specs.Numbers.{down};
-ghost use Rattle.measuring.specs.Numbers.{number, or_nought};
+ghost use Rattle.measuring.specs.Numbers.{number, Answers};
 
 // high × 2^64 + low
 #[derive(Clone, Copy)]
@@ -34,8 +34,7 @@ pub struct Answer {
 
 impl From<Option<i128>> for Answer {
     fn from(found: Option<i128>) -> Answer
-        ensures known { result.known ≡ is_some found }
-        ensures number { number result.number ≡ or_nought found }
+        ensures { Answers found result }
     {
         Answer {
             known: found.is_some(),

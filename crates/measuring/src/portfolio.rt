@@ -1,6 +1,5 @@
 // The six figures of a portfolio with eight lines and four orders, in roubles and dollars.
-ghost use Rattle.std.specs.Prelude.{◌≡◌, ◌≤◌, length, is_some};
-ghost use Rattle.std.specs.Option.{unwrap_or};
+ghost use Rattle.std.specs.Prelude.{◌≡◌, ◌≤◌, length};
 ghost use Rattle.keyed.specs.Rows.{Rising};
 ghost use Rattle.margin.specs.Keys.{currency_code, instrument_code};
 ghost use Rattle.margin.specs.Sheets.{Apart};
@@ -10,7 +9,7 @@ ghost use Rattle.valuation.specs.Keys.{line_code};
 ghost use Rattle.valuation.specs.Holdings.{sheet_of, holding_of};
 ghost use Rattle.sources.specs.Posted.{posted_says};
 ghost use Rattle.measuring.specs.Lines.{posted_rate};
-ghost use Rattle.measuring.specs.Portfolios.{figures_under, noughts, Tells};
+ghost use Rattle.measuring.specs.Portfolios.{figures_under, InHalves, Tells};
 
 use crate::numbers::Wide;
 use crate::placed::{instruments, lines};
@@ -47,8 +46,9 @@ const NOUGHTS: Figures = Figures {
     worst: 0,
 };
 
+// The figures, and whether they are known.
 fn in_halves(known: bool, figures: Figures) -> Told
-    ensures { Tells known figures result }
+    ensures { InHalves known figures result }
 {
     Told {
         known,
@@ -102,6 +102,7 @@ fn valued<'a, S: RateSource>(
     })
 }
 
+// The sheet and the portfolio that the records say, valued.
 fn figures<R: RateRow>(
     rate: R::Rate,
     cash: Cash,
@@ -133,8 +134,8 @@ fn figures<R: RateRow>(
     ))
 }
 
-// The figures of eight lines and four orders, where every code but the rouble has the same posted rate. They are not known
-// where a number is out of its range, or where lines or orders are not so many.
+// The figures of eight lines and four orders, where every code has the same posted rate. They are not known where a number
+// is out of its range, or where lines or orders are not so many.
 #[unsafe(no_mangle)]
 pub extern "C" fn figures_posted(
     plus: u16,
@@ -143,7 +144,7 @@ pub extern "C" fn figures_posted(
     units: &[Units],
     requests: &[Request],
 ) -> Told
-    ensures { let found = figures_under (posted_says (posted_rate 840 plus minus)) cash units.now requests.now in Tells (is_some found) (unwrap_or found noughts) result }
+    ensures { Tells (figures_under (posted_says (posted_rate 840 plus minus)) cash units.now requests.now) result }
 {
     let rate = PostedRate {
         code: DOLLAR,

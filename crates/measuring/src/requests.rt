@@ -1,5 +1,5 @@
 // Standing orders as C passes them.
-ghost use Rattle.std.specs.Prelude.{◌≡◌, map, length, if◌then◌else◌, nat_eq, Some, None};
+ghost use Rattle.std.specs.Prelude.{◌≡◌};
 ghost use Rattle.measuring.specs.Requests.{order_of, four_of};
 
 use margin::{Order, Side};
