@@ -1,4 +1,4 @@
-// Eight lines, each in a code by its place.
+// Eight lines, each in a code by its place. They are written out, so that each place says its own code.
 ghost use Rattle.std.specs.Prelude.{◌≡◌};
 ghost use Rattle.measuring.specs.Placed.{eight_of, AreLines};
 
