@@ -9,7 +9,7 @@ pub(crate) const LAST_CURRENCY: u16 = 999;
 // In ten-thousandths of a rouble.
 const MOST_FX: u32 = 10_000_000;
 
-// In hundredths.
+// In hundredths: another limit than that of gross, of the same value.
 pub(crate) const MOST_AMOUNT: u64 = 200_000_000_000;
 
 // As margin has it; neither crate stands on the other.
@@ -41,7 +41,7 @@ pub(crate) fn not_a_risk_rate(rate: u16) -> bool
     rate > MOST_RISK
 }
 
-// The numbers of a currency entry: its code and its exchange rate.
+// The numbers of a currency entry: its code and its exchange rate, apart since margin's `Currency` stands above.
 pub fn check_currency(code: u16, fx: u32, place: usize) -> Result<(), FieldFault>
     ensures { result ≡ ranged (no_currency code || no_fx fx) place }
 {

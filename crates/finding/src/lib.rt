@@ -24,8 +24,8 @@ impl Keyed for Row {
     }
 }
 
-// Where the code stands among the first `used` rows; the number of places where it does not. `used` is a number beside the
-// rows, as C passes it.
+// Where the code stands among the first `used` rows; the number of places where it does not. `used` and the
+// answer are numbers, as C passes and takes them.
 #[unsafe(no_mangle)]
 pub extern "C" fn find_row(rows: &[Row], used: usize, code: u32) -> usize
     ensures found { Rising (λ x. x.code) (take used rows.now) → result < length rows.now → Stands (λ x. x.code) (take used rows.now) code result }

@@ -1,4 +1,4 @@
-// Places and tables at two record types: filled, emptied and filled again.
+// Places and tables at two record types, each with values of its own: filled, emptied and filled again.
 #![tactic(auto)]
 
 ghost use Rattle.std.specs.Prelude.{◌≡◌, ◌+◌, ◌*◌, ◌^◌};

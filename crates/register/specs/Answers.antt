@@ -44,6 +44,7 @@ with_paid r p c z = cash_holding (paid (cash r p) c z)
 abbrev pub missing : Register → ℕ → Bool
 missing r c = not (is_some (currency_at (in_force r) c))
 
+-- numbers one by one, as the rules' calls have them
 abbrev pub pays_in : Register → ℕ → ℕ → ℕ → Result (Unit {0}) RegisterFault
 pays_in r p c x =
     first_of (

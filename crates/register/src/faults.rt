@@ -28,6 +28,7 @@ pub enum RegisterCause {
 #[derive(Clone, Copy, Debug, PartialEq, Eq)]
 pub enum RegisterFault {
     Sheet(SheetFault),
+    // the place is 0 without a book, as the rules number places
     State { cause: RegisterCause, place: usize },
 }
 

@@ -8,6 +8,7 @@ use book::check_currency;
 use keyed::{add, find};
 use margin::{Currency, ROUBLE};
 
+// The clauses have the number itself, so that a reader sees it.
 const MOST_CURRENCIES: usize = 8;
 
 const PAR: u32 = 10_000;

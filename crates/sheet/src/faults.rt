@@ -25,6 +25,7 @@ pub enum SheetCause {
 #[derive(Clone, Copy, Debug, PartialEq, Eq)]
 pub enum SheetFault {
     Field(FieldFault),
+    // the place is 0 without a book, as the rules number places
     State { cause: SheetCause, place: usize },
 }
 

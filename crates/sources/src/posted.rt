@@ -58,6 +58,7 @@ impl RateRow for PostedRow {
         Ok(PostedRow { rate })
     }
 
+    // By its place, as a source answers it.
     fn piece(&self, k: usize) -> Option<Piece> {
         match k {
             1 => Some(lighter(self.rate.plus, 0)),

@@ -24,7 +24,7 @@ pub trait RateRow: Keyed<Key = u16> + Copy {
     // What the numbers say, and whether one is outside its range.
     ghost says: { Self.Rate → Said };
 
-    // What stands in a free place. No rate is entered for code 0.
+    // What stands in a free place. No rate is entered for code 0. No `Default`, which would promise no key.
     fn blank() -> Self
         ensures { Self.Keyed.key result ≡ 0 };
 

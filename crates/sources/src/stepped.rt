@@ -80,6 +80,7 @@ impl RateRow for SteppedRow {
         Ok(SteppedRow { rate })
     }
 
+    // By its place, as a source answers it.
     fn piece(&self, k: usize) -> Option<Piece> {
         match k {
             1 => Some(lighter(self.rate.s1, 0)),

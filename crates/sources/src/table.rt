@@ -9,6 +9,7 @@ use rates::RateSource;
 use sheet::SheetFault;
 use std::alloc::{AllocError, Global};
 
+// The clauses have the number itself, so that a reader sees it.
 const PLACES: usize = 263;
 
 #[derive(Drop)]

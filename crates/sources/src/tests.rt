@@ -1,4 +1,4 @@
-// Each table filled, read and emptied, and what it promises in its own terms.
+// Each table filled, read and emptied, with values of its own, and what it promises in its own terms.
 ghost use Rattle.std.specs.Prelude.{◌≡◌, length, MatchResult};
 ghost use Rattle.sources.specs.Entering.{Enters};
 ghost use Rattle.sources.specs.Posted.{posted, posted_count, posted_pieces, enters_posted};

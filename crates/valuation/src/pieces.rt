@@ -1,4 +1,5 @@
-// The least over a code's pieces, in ten-thousandths, and rounded down once.
+// The least over a code's pieces, in ten-thousandths, and rounded down once. A source, a stake and
+// orders go together through these functions alone.
 ghost use Rattle.std.specs.Prelude.{◌≡◌};
 ghost use Rattle.std.specs.Option.{option_map};
 ghost use Rattle.rates.specs.Pieces.{from_one};

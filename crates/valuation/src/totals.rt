@@ -1,4 +1,5 @@
-// The figures of a whole portfolio: its lines walked, each code looked up in the sheet, for each currency alone.
+// The figures of a whole portfolio: its lines walked, each code looked up in the sheet, for each currency alone. Each function
+// promises its bound, since its caller's sum needs it.
 ghost use Rattle.std.specs.Prelude.{◌≡◌, ◌*◌, ◌^◌, ◌≤◌, unsigned_abs};
 ghost use Rattle.margin.specs.Figures.{figures_of};
 ghost use Rattle.margin.specs.Fillings.{worst};

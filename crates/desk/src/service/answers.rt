@@ -1,4 +1,4 @@
-// What the desk answers to each field. A call before a sheet is in force meets 27.
+// What the desk answers to each field. A call before a sheet is in force meets 27. Each call has a short method of its own.
 ghost use Rattle.std.specs.Prelude.{◌≡◌, IfOk, Some, None, Ok};
 ghost use Rattle.rules.specs.Histories.{opened_with};
 ghost use Rattle.book.specs.Requests.{enter_currency, put_in_force, open_portfolio, pay_in, pay_out, figures, asked};

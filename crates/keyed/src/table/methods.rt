@@ -96,7 +96,8 @@ impl<R: Keyed + Copy> Table<R> {
         Some(self.take_out(at))
     }
 
-    // Puts at the key what is given: a record that has it, or none.
+    // Puts at the key what is given: a record that has it, or none. An Option, so that a change is taken back by putting there
+    // what stood there.
     pub fn set(&mut self, key: R::Key, row: Option<R>)
         requires under { Under R.Keyed.key (R.Key.Key.rank key) row }
         requires place { no_place R.Keyed.key self.old (R.Key.Key.rank key) row ≡ false }

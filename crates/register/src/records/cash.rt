@@ -5,7 +5,7 @@ ghost use Rattle.register.specs.Writes.{cash_of, moved_to};
 
 use super::Portfolio;
 
-// The limit of gross, which of cash alone is the cash.
+// The limit of gross, which of cash alone is the cash: another limit than a payment's, of the same value.
 const GROSS_LIMIT: u64 = 200_000_000_000;
 
 impl Portfolio {

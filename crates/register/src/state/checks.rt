@@ -1,5 +1,5 @@
-// The checks of each call in their order, one under the other: the first that fails gives the refusal. Where none does, they
-// give what the call then writes or tells.
+// The checks of each call in their order, one `let .. else` a refusal: the first that fails gives it. Where none does, they
+// give what the call then writes or tells. Two payments stay written out, so that each call's order is read in one place.
 ghost use Rattle.std.specs.Prelude.{◌≡◌, pos, neg_ℤ, Some, Ok, Err, IfOk, MatchResult};
 ghost use Rattle.margin.specs.Figures.{figures_of};
 ghost use Rattle.register.specs.State.{in_force, portfolio, holding};

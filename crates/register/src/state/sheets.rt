@@ -22,6 +22,7 @@ use margin::Currency;
 use sheet::{ClosedSheet, SheetCause, SheetFault};
 use std::alloc::{AllocError, Global};
 
+// The clauses have the number itself, so that a reader sees it.
 const MOST_PORTFOLIOS: usize = 1_024;
 
 // The memory of a register with no portfolio: all that it will ever want.
@@ -37,6 +38,7 @@ fn begun(
     Ok((currencies, Table::new(rows, MOST_PORTFOLIOS)))
 }
 
+// By their lengths and `all`: of the codes' own `eq` no proof closed.
 fn has_same_codes(ours: &[Currency], theirs: &[Currency]) -> bool
     ensures { result ≡ same_codes ours.now theirs.now }
 {
