@@ -27,9 +27,13 @@ impl Keyed for Row {
 // Where the code stands among the first `used` rows; the number of places where it does not. `used` and the
 // answer are numbers, as C passes and takes them.
 #[unsafe(no_mangle)]
+#[tactic(auto, using(crate::proofs::InUse::in_use))]
 pub extern "C" fn find_row(rows: &[Row], used: usize, code: u32) -> usize
     ensures found { Rising (λ x. x.code) (take used rows.now) → result < length rows.now → Stands (λ x. x.code) (take used rows.now) code result }
     ensures missing { Rising (λ x. x.code) (take used rows.now) → length rows.now ≤ result → lookup (λ x. x.code) (take used rows.now) code ≡ None }
 {
-    keyed::find(&rows[..used.min(rows.len())], code).unwrap_or(rows.len())
+    match keyed::find(&rows[..used.min(rows.len())], code) {
+        Ok(at) => at,
+        Err(_) => rows.len(),
+    }
 }

@@ -7,12 +7,15 @@ ghost use Rattle.keyed.specs.Rows.{Rising, Sought, ranked_between};
 
 use crate::keys::{Key, Keyed};
 
-// Where `key` stands, or else where it would.
+// Where `key` stands, or else where it would. Arm by arm, so that an edit of one place is refused for that place alone.
 pub fn find<R: Keyed>(rows: &[R], key: R::Key) -> Result<usize, usize>
     ensures within { IsSearchInRange result (length rows.now) }
     ensures sought { Rising R.Keyed.key rows.now → Sought R.Keyed.key rows.now (R.Key.Key.rank key) result }
 {
-    rows.binary_search_by(|row| row.key().compare(key))
+    match rows.binary_search_by(|row| row.key().compare(key)) {
+        Ok(at) => Ok(at),
+        Err(at) => Err(at),
+    }
 }
 
 // The records with keys from `low` to `high`, which stand together.

@@ -141,6 +141,22 @@ mod tests {
         Ok(())
     }
 
+    // Records on places become a table once their keys rise, and the places come back with what was put in.
+    #[test]
+    fn moves(rt: HostRuntime) -> Result<(), Fail> {
+        let mut accounts = Places::new(vec![in rt.alloc(); account(0, 0); 3]?, 3);
+        accounts.load(&[account(4, 40), account(9, 90)]);
+        let mut table = Table::of(accounts);
+        assert_eq!(rt; table.get(9), Some(account(9, 90)));
+        assert_eq!(rt; table.insert(account(5, 50)), Ok(()));
+        let mut accounts = table.into_places();
+        assert_eq!(rt; accounts.row(1), account(5, 50));
+        assert!(rt; accounts.is_full());
+        accounts.load(&[account(3, 30), account(2, 20)]);
+        assert_eq!(rt; accounts.row(1), account(2, 20));
+        Ok(())
+    }
+
     // A record put at a key, another in its place, and none; then the table is cleared.
     #[test]
     fn puts(rt: HostRuntime) -> Result<(), Fail> {

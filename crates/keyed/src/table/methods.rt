@@ -1,6 +1,7 @@
 ghost use Rattle.std.specs.Prelude.{◌≡◌, ◌<◌, ◌≤◌, min, false, length, IfSome, Some, None, vec_len, nat_le, slice_index_or};
 ghost use Rattle.keyed.specs.Rows.{Rising, Gap, Stands, ranked_between};
 ghost use Rattle.keyed.specs.Laws.{Under};
+ghost use Rattle.keyed.specs.Places.{records, serving};
 ghost use Rattle.keyed.specs.Tables.{no_place, entries, room, holds, Located, Sets, Inserts, Replaces, Fresh};
 
 use super::{Refusal, Table};
@@ -17,6 +18,24 @@ impl<R: Keyed + Copy> Table<R> {
         Table {
             rows: Places::new(places, most),
         }
+    }
+
+    // The table of records that stand on places already, once their keys rise.
+    pub fn of(rows: Places<R>) -> Table<R>
+        requires { Rising R.Keyed.key (records rows) }
+        ensures records { entries result ≡ records rows }
+        ensures room { room result ≡ serving rows }
+    {
+        Table { rows }
+    }
+
+    // The records on their places, where any others may then be put.
+    pub fn into_places(self) -> Places<R>
+        ensures records { records result ≡ entries self }
+        ensures serving { serving result ≡ room self }
+    {
+        let Table { rows } = self;
+        rows
     }
 
     // The records, in the order of their keys.
