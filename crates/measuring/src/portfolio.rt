@@ -70,14 +70,14 @@ pub struct Cash {
     pub fx: u32,
 }
 
-// Lifetimes are written out, since a struct takes another that holds a reference only at the same one.
-fn valued<'a, S: RateSource>(
-    source: &'a S,
-    currencies: &'a [Currency],
-    instruments: &'a [Instrument],
-    lines: &'a [Line],
-    orders: &'a [Order],
-    cash: &'a [i64; 8],
+// Each reference has a lifetime of its own.
+fn valued<S: RateSource>(
+    source: &S,
+    currencies: &[Currency],
+    instruments: &[Instrument],
+    lines: &[Line],
+    orders: &[Order],
+    cash: &[i64; 8],
 ) -> Figures
     requires currencies { length currencies.now ≤ 8 }
     requires currencies_apart { Apart currency_code currencies.now }

@@ -28,6 +28,16 @@ pub highest_fold : (p : ℕ) (os : List Order) → fold (λ x y. max x y) p (map
 highest_fold p [] = refl
 highest_fold p (o ∷ os) = let e : max p o.price ≡ max o.price p = omega arith in ap (λ n. fold (λ x y. max x y) n (map (λ o. o.price) os)) e ∙ fold_max p o.price os ∙ ap (max o.price) (highest_fold p os)
 
+-- the same of those that pass a test, one after another
+kept_by : (t : Order → Bool) (b : Bool) (p : ℕ) (o : Order) (os : List Order) → ((q : ℕ) → fold (λ a x. cond (t x) (max a x.price) a) q os ≡ fold (λ x y. max x y) q (map (λ o. o.price) (filter t os)))
+    → fold (λ a x. cond (t x) (max a x.price) a) (cond b (max p o.price) p) os ≡ fold (λ x y. max x y) p (map (λ o. o.price) (cond b (o ∷ filter t os) (filter t os)))
+kept_by t true p o os later = later (max p o.price)
+kept_by t false p o os later = later p
+
+pub kept_fold : (t : Order → Bool) (p : ℕ) (os : List Order) → fold (λ a x. cond (t x) (max a x.price) a) p os ≡ fold (λ x y. max x y) p (map (λ o. o.price) (filter t os))
+kept_fold t p [] = refl
+kept_fold t p (o ∷ os) = kept_by t (t o) p o os (λ q. kept_fold t q os)
+
 -- the part of the orders has all the line's own
 pub line_gross : (i : Instrument) (q : ℤ) (part os : List Order) (units high : ℕ) → filter (on i.code) part ≡ filter (on i.code) os →
     units ≡ nat_abs q + count (λ o. cond (on i.code o) o.left 0) part → high ≡ highest i.price (filter (on i.code) part) → units * high ≡ gross_of os i q

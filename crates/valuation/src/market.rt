@@ -8,10 +8,10 @@ use crate::listing::Listing;
 use margin::Currency;
 
 #[derive(Drop)]
-pub struct Market<'a, S> {
-    pub source: &'a S,
-    pub currencies: &'a [Currency],
-    pub listing: Listing<'a>,
+pub struct Market<'s, 'c, 'l, S> {
+    pub source: &'s S,
+    pub currencies: &'c [Currency],
+    pub listing: Listing<'l>,
     ghost few: { length currencies.now ≤ 8 },
     ghost apart: { Apart currency_code currencies.now } by { Apart-prop currency_code currencies.now },
 }

@@ -22,12 +22,13 @@ impl<'a> Orders<'a> {
             .iter()
             .position(|order| code == order.code)
             .unwrap_or(orders.len());
-        let end = orders
+        let rest = &orders[start..];
+        let end = rest
             .iter()
             .rposition(|order| code == order.code)
-            .map_or(start, |last| last + 1);
+            .map_or(0, |last| last + 1);
         Orders {
-            orders: &orders[start..end],
+            orders: &rest[..end],
         }
     }
 
@@ -50,10 +51,12 @@ impl<'a> Orders<'a> {
     pub(crate) fn highest(&self, code: u16, price: u32) -> u32
         ensures { result ≡ limits.highest price (filter (on code) self.now.orders.now) }
     {
-        self.orders
-            .iter()
-            .filter(|order| code == order.code)
-            .map(|order| order.price)
-            .fold(price, u32::max)
+        self.orders.iter().fold(price, |best, order| {
+            if code == order.code {
+                best.max(order.price)
+            } else {
+                best
+            }
+        })
     }
 }

@@ -3,9 +3,9 @@ use crate::lines::Lines;
 use crate::orders::Orders;
 
 #[derive(Clone, Copy)]
-pub struct Portfolio<'a> {
-    pub lines: Lines<'a>,
-    pub orders: Orders<'a>,
+pub struct Portfolio<'l, 'o, 'c> {
+    pub lines: Lines<'l>,
+    pub orders: Orders<'o>,
     // A fixed array by the place of the currency: a portfolio wants no memory of its own.
-    pub cash: &'a [i64; 8],
+    pub cash: &'c [i64; 8],
 }

@@ -17,7 +17,7 @@ use crate::position::Position;
 use margin::{Currency, Figures, figures_from, wide_in_roubles};
 use rates::RateSource;
 
-impl<'a, S: RateSource> Market<'a, S> {
+impl<'s, 'c, 'l, S: RateSource> Market<'s, 'c, 'l, S> {
     // The value of a line, where it is in the sheet and priced in the currency.
     fn value_in<M: Measure>(&self, line: Line, orders: &Orders, currency: u16) -> i128
         ensures is { let pieces = S.RateSource.pieces self.now.source.now in result ≡ value_in (M.Measure.line_value pieces orders.now.orders.now) self.now.listing.instruments.now currency line }

@@ -2,12 +2,14 @@ use Rattle.std.proofs.Common.{◌≡◌, ℕ, ◌<◌, ◌≤◌, false, length,
 use Rattle.std.proofs.iter.runs.Made.{chains}
 use Rattle.margin.specs.Orders.{on}
 use Rattle.margin.specs.declared.Order.{Order}
-use Rattle.valuation.proofs.Parts.{kept_between}
+use Rattle.valuation.proofs.Parts.{from, kept_between}
 use Rattle.valuation.proofs.orders.Orders.part.Goals as goal
 
 pub returns : goal.returns
 returns c =
     let orders = c.args.self.now.orders.now in
-    let later : (k : ℕ) (d : Order) → c.map_or-end.result ≤ k → k < length c.args.self.now.orders.now → on c.args.code (slice_index_or c.args.self.now.orders.now k d) ≡ false = λ k d h l. search (rules, chains) in
-    let first : (k : ℕ) (d : Order) → k < c.unwrap_or-start.result → k < length c.args.self.now.orders.now → on c.args.code (slice_index_or c.args.self.now.orders.now k d) ≡ false = λ k d h l. search (rules, chains) in
+    let start = c.unwrap_or-start.result in
+    let rest = from orders start in
+    let first : (k : ℕ) (d : Order) → k < start → k < length orders → on c.args.code (slice_index_or orders k d) ≡ false = λ k d h l. search (rules, chains) in
+    let later : (k : ℕ) (d : Order) → c.map_or-end.result ≤ k → k < length rest → on c.args.code (slice_index_or rest k d) ≡ false = λ k d h l. search (rules, chains) in
     kept_between (on c.args.code) orders _ _ first later
