@@ -42,6 +42,8 @@ impl RateRow for PostedRow {
 
     ghost pieces = { of_posted };
 
+    ghost rate_of = { λ x. x.rate };
+
     ghost says = { posted_says };
 
     ghost many = { posted_many };

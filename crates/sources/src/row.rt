@@ -1,5 +1,5 @@
 // The row of a table of rates.
-ghost use Rattle.std.specs.Prelude.{◌≡◌, ℕ, List, length};
+ghost use Rattle.std.specs.Prelude.{◌≡◌, ℕ, List, length, IfOk};
 ghost use Rattle.margin.specs.declared.Piece as margin;
 ghost use Rattle.rates.specs.Pieces.{Lawful, from_one};
 ghost use Rattle.sources.specs.Entering.{Said, Checked};
@@ -21,6 +21,9 @@ pub trait RateRow: Keyed<Key = u16> + Copy {
     // The pieces of a rate.
     ghost pieces: { Self → List margin.Piece };
 
+    // The numbers of a row.
+    ghost rate_of: { Self → Self.Rate };
+
     // What the numbers say, and whether one is outside its range.
     ghost says: { Self.Rate → Said };
 
@@ -30,7 +33,8 @@ pub trait RateRow: Keyed<Key = u16> + Copy {
 
     // The row of a rate whose numbers are in their ranges. No TryFrom, since a trait's bound cannot name the trait's own type.
     fn checked(rate: Self::Rate) -> Result<Self, FieldFault>
-        ensures { Checked Self.Keyed.key pieces (says rate) result };
+        ensures row { Checked Self.Keyed.key pieces (says rate) result }
+        ensures rate { IfOk result (λ x. rate_of x ≡ rate) };
 
     // The piece at a place from 1, where there is one, as a source answers it.
     fn piece(&self, k: usize) -> Option<Piece>

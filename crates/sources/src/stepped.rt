@@ -64,6 +64,8 @@ impl RateRow for SteppedRow {
 
     ghost pieces = { of_stepped };
 
+    ghost rate_of = { λ x. x.rate };
+
     ghost says = { stepped_says };
 
     ghost many = { stepped_many };
