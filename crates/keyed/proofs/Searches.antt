@@ -1,5 +1,5 @@
 -- What the library's searches answer for records whose keys rise.
-use Rattle.std.proofs.Common.{◌≡◌, ℕ, ◌+◌, ◌≤◌, ltb, List, length, Ok, Err, Result, sym, arith}
+use Rattle.std.proofs.Common.{◌≡◌, ℕ, ◌+◌, ◌≤◌, ltb, List, length, Ok, Err, Result, sym, subst, arith}
 use Rattle.std.specs.Ordering.{nat_cmp, ordering_index, is_lt, is_le}
 use Rattle.std.specs.List.Sorted.{IsSearchInRange, IsBinarySearchResult}
 use Rattle.std.proofs.lemmas.Cmp.{ranked}
@@ -25,3 +25,7 @@ module _ {R : Type 0} (key : R → ℕ) where
   sought xs up q (Err i) within parted =
       let cut = parted (λ i j d le h. ordered _ _ q (level key xs up i j d le h)) in
       record { within = within; below = λ k d l. ranked _ q _ (sym (cut.0 k d (omega arith) l)); above = λ k d l h. ranked _ q _ (sym (cut.1 k d l h)) }
+
+  -- the same place, however it is written
+  pub gap_at : (xs : List R) (q i j : ℕ) → i ≡ j → Sought key xs q (Err i) → Sought key xs q (Err j)
+  gap_at xs q i j e = subst (λ (k : ℕ). Sought key xs q (Err k)) e
